@@ -1,0 +1,2 @@
+-- The laws of the mathematics, in the order in which they build on one another.
+pub mod Residues

@@ -1,0 +1,39 @@
+-- Whole numbers modulo p.
+--
+--   first t i n     the first of the n numbers i, i + 1, .. that passes the test t; i + n if none does
+--   Same p a b      a and b leave the same remainder modulo p
+--   Prime p         p is at least 2, and only 1 and p divide it
+--   isPrime p       the same as a test that computes
+--   inverse p a     the first x from 1 to p − 1 with a · x ≡ 1 modulo p; p if there is none
+use Prim.Native.Nat.{ℕ, zero, suc, _*_, _-_, _%_, _≤_, _∣_}
+use mathlib.Core.Path.{_≡_}
+use mathlib.Core.Bool.{Bool, true, false}
+use mathlib.Core.Logic.{_⊎_}
+use lib.Dec.{eqb, leb}
+
+-- one of two values, by a test
+abbrev pub pick {ℓ} : {A : Type ℓ} → Bool → A → A → A
+pick true a b = a
+pick false a b = b
+
+abbrev pub first : (ℕ → Bool) → ℕ → ℕ → ℕ
+first t i zero = i
+first t i (suc n) = let rest = first t (suc i) n in pick (t i) i rest
+
+pub record Same (p a b : ℕ) : Type 0 where
+  pub same : a % p ≡ b % p
+
+pub record Prime (p : ℕ) : Type 0 where
+  pub two : 2 ≤ p
+  pub only : (d : ℕ) → d ∣ p → (d ≡ 1) ⊎ (d ≡ p)
+
+-- d divides n
+abbrev pub divides : ℕ → ℕ → Bool
+divides n d = eqb (n % d) 0
+
+-- from 2 on, the first divisor of p is p itself
+unfoldable pub isPrime : ℕ → Bool
+isPrime p = pick (leb 2 p) (eqb (first (divides p) 2 (p - 2)) p) false
+
+unfoldable pub inverse : ℕ → ℕ → ℕ
+inverse p a = first (λ x. eqb (a * x % p) 1) 1 (p - 1)
