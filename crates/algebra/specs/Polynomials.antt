@@ -7,7 +7,7 @@
 --   f ++ g            the sum
 --   times t f         the term t times f
 --   mul f g           the product: every term of f times every term of g
---   minus p t f       the term t times f, subtracted: −1 is p − 1 modulo p
+--   negated p f       −f: every number times p − 1, which is −1 modulo p
 --   largest w f       the largest w of a monomial of f, 0 where f has no term: M(f, v) for w the exponent of v
 --   sorted O p f      f with one term for each monomial that stands in it, the greatest first, numbers below p, perhaps 0
 --   norm O p f        the same without the terms whose number is 0: the normal form
@@ -49,8 +49,9 @@ abbrev pub mul : {K : Monomials} → Poly K → Poly K → Poly K
 mul [] g = []
 mul (t ∷ f) g = times t g ++ mul f g
 
-abbrev pub minus : {K : Monomials} → ℕ → Term K → Poly K → Poly K
-minus p t f = times (term (t .mon) ((p - 1) * t .num)) f
+abbrev pub negated : {K : Monomials} → ℕ → Poly K → Poly K
+negated p [] = []
+negated p (u ∷ f) = term (u .mon) ((p - 1) * u .num) ∷ negated p f
 
 abbrev pub largest : {K : Monomials} → (K .Mon → ℕ) → Poly K → ℕ
 largest w [] = 0
@@ -85,6 +86,7 @@ module _ {K : Monomials} (O : Order K) (p : ℕ) where
   abbrev pub norm : Poly K → Poly K
   norm f = nonzero (sorted f)
 
+module _ {K : Monomials} (O : Order K) where
   -- every monomial of f is below m
   abbrev pub Below : K .Mon → Poly K → Type 0
   Below m [] = Unit {0}
@@ -100,5 +102,5 @@ Reduced p [] = Unit {0}
 Reduced p (u ∷ f) = (0 < u .num) × (u .num < p) × Reduced p f
 
 pub record Normal {K : Monomials} (O : Order K) (p : ℕ) (f : Poly K) : Type 0 where
-  pub falling : Falling O p f
+  pub falling : Falling O f
   pub reduced : Reduced p f

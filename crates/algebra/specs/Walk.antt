@@ -12,7 +12,7 @@ use mathlib.Core.List.{[], _∷_, _++_}
 use Rattle.algebra.specs.Residues.{inverse}
 use Rattle.algebra.specs.Monomials.{Monomials}
 use Rattle.algebra.specs.Orders.{Order}
-use Rattle.algebra.specs.Polynomials.{Term, term, Poly, minus, sorted}
+use Rattle.algebra.specs.Polynomials.{Term, term, Poly, times, negated, sorted}
 
 abbrev pub unfinished : ℕ
 unfinished = 18
@@ -50,7 +50,7 @@ module _ {K : Monomials} (O : Order K) (p : ℕ) (lead : Term K) (later : Poly K
   handle next i j u f zero d = next i j f
   handle next i j u f (suc c) (yes q) =
       let t = quotientTerm (q .0) u in
-      let w = next (suc i) j (sorted O p (f ++ minus p t later)) in
+      let w = next (suc i) j (sorted O p (f ++ negated p (times t later))) in
       toQuotient (J .onQuotient i t) t (u ∷ f) w
   handle next i j u f (suc c) (no n) =
       let w = next i (suc j) f in
