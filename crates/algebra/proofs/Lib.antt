@@ -1,5 +1,9 @@
 -- The laws of the mathematics, in the order in which they build on one another.
+pub mod Scan
 pub mod Residues
+pub mod Primes
 pub mod Totals
 pub mod NormalForm
 pub mod Ring
+pub mod Leads
+pub mod Degrees

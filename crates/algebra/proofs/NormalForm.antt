@@ -1,10 +1,11 @@
 -- The normal form: it is the polynomial, it is normal, and it is the only one.
 --
 --   Small p f                     every number of f is below p
---   below-trans, below-append     of `Below`: monomials of f are below m
+--   all-map, all-append           of `All P f`: every monomial of f has the property P
+--   below-trans                   of `Below O m f`: every monomial of f is below m
 --   below-coef                    the coefficient at a monomial that all are below is 0
---   sorted-falling, sorted-small, sorted-below, sorted-total    of `sorted`
---   norm-normal, norm-below, norm-total, norm-equal             of `norm`
+--   sorted-falling, sorted-small, sorted-all, sorted-total      of `sorted`
+--   norm-normal, norm-all, norm-total, norm-equal             of `norm`
 --   equal-refl, equal-sym, equal-trans                          of `Equal`
 --   normal-unique                 normal polynomials that are equal are the same list
 --   norm-unique, norm-self        equal polynomials have one normal form; a normal polynomial is its own
@@ -31,6 +32,7 @@ use Rattle.algebra.specs.Polynomials.{
   insert,
   sorted,
   norm,
+  All,
   Below,
   Falling,
   Reduced,
@@ -63,16 +65,22 @@ module _ {K : Monomials} {p : ℕ} where
   pub equal-trans : {f g h : Poly K} → Equal p f g → Equal p g h → Equal p f h
   equal-trans e d = record { equal = λ m. same-trans (e .equal m) (d .equal m) }
 
+-- Properties of every monomial
+
+module _ {K : Monomials} {P Q : K .Mon → Type 0} where
+  pub all-map : ((m : K .Mon) → P m → Q m) → (f : Poly K) → All P f → All Q f
+  all-map h [] a = tt
+  all-map h (u ∷ f) a = (h (u .mon) (a .0), all-map h f (a .1))
+
+pub all-append : {K : Monomials} (P : K .Mon → Type 0) (f g : Poly K) → All P f → All P g → All P (f ++ g)
+all-append P [] g a b = b
+all-append P (u ∷ f) g a b = (a .0, all-append P f g (a .1) b)
+
 -- Monomials below a given one
 
 module _ {K : Monomials} (O : Order K) where
   pub below-trans : (m n : K .Mon) → O .less m n → (f : Poly K) → Below O m f → Below O n f
-  below-trans m n h [] b = tt
-  below-trans m n h (u ∷ f) b = (O .transitive (u .mon) m n (b .0) h, below-trans m n h f (b .1))
-
-  pub below-append : (m : K .Mon) (f g : Poly K) → Below O m f → Below O m g → Below O m (f ++ g)
-  below-append m [] g b c = c
-  below-append m (u ∷ f) g b c = (b .0, below-append m f g (b .1) c)
+  below-trans m n h f b = all-map {P = λ x. O .less x m} {Q = λ x. O .less x n} (λ x k. O .transitive x m n k h) f b
 
   apart : (m n : K .Mon) (c : ℕ) (d : Dec (n ≡ m)) → O .less n m → only d c ≡ 0
   apart m n c (yes e) h = absurd (O .irreflexive m (subst (λ x. O .less x m) e h))
@@ -89,17 +97,22 @@ only-here m (no n) c = absurd (n refl)
 -- Sorting
 
 module _ {K : Monomials} (O : Order K) (p : ℕ) (pos : 0 < p) where
-  placed-below : (n m : K .Mon) (c : ℕ) (u : Term K) (f rest : Poly K) (t : Tri (O .less m (u .mon)) (m ≡ u .mon) (O .less (u .mon) m)) → O .less m n → Below O n (u ∷ f) → Below O n rest → Below O n (placed O p m c u f rest t)
-  placed-below n m c u f rest (below h) k b r = (b .0, r)
-  placed-below n m c u f rest (level h) k b r = (k, b .1)
-  placed-below n m c u f rest (above h) k b r = (k, (b .0, b .1))
+  module _ (P : K .Mon → Type 0) where
+    placed-all : (m : K .Mon) (c : ℕ) (u : Term K) (f rest : Poly K) (t : Tri (O .less m (u .mon)) (m ≡ u .mon) (O .less (u .mon) m)) → P m → All P (u ∷ f) → All P rest → All P (placed O p m c u f rest t)
+    placed-all m c u f rest (below h) k b r = (b .0, r)
+    placed-all m c u f rest (level h) k b r = (k, b .1)
+    placed-all m c u f rest (above h) k b r = (k, (b .0, b .1))
 
-  insert-below : (n m : K .Mon) (c : ℕ) (f : Poly K) → O .less m n → Below O n f → Below O n (insert O p m c f)
-  insert-below n m c [] k b = (k, tt)
-  insert-below n m c (u ∷ f) k b = placed-below n m c u f _ (O .compare m (u .mon)) k b (insert-below n m c f k (b .1))
+    insert-all : (m : K .Mon) (c : ℕ) (f : Poly K) → P m → All P f → All P (insert O p m c f)
+    insert-all m c [] k b = (k, tt)
+    insert-all m c (u ∷ f) k b = placed-all m c u f _ (O .compare m (u .mon)) k b (insert-all m c f k (b .1))
+
+    pub sorted-all : (f : Poly K) → All P f → All P (sorted O p f)
+    sorted-all [] b = tt
+    sorted-all (u ∷ f) b = insert-all (u .mon) (u .num) (sorted O p f) (b .0) (sorted-all f (b .1))
 
   placed-falling : (m : K .Mon) (c : ℕ) (u : Term K) (f : Poly K) (t : Tri (O .less m (u .mon)) (m ≡ u .mon) (O .less (u .mon) m)) → Falling O (u ∷ f) → Falling O (insert O p m c f) → Falling O (placed O p m c u f (insert O p m c f) t)
-  placed-falling m c u f (below h) b r = (insert-below (u .mon) m c f h (b .0), r)
+  placed-falling m c u f (below h) b r = (insert-all (λ n. O .less n (u .mon)) m c f h (b .0), r)
   placed-falling m c u f (level e) b r = (subst (λ x. Below O x f) (sym e) (b .0), b .1)
   placed-falling m c u f (above h) b r = ((h, below-trans O (u .mon) m h f (b .0)), b)
 
@@ -141,21 +154,18 @@ module _ {K : Monomials} (O : Order K) (p : ℕ) (pos : 0 < p) where
   sorted-small [] = tt
   sorted-small (u ∷ f) = insert-small (u .mon) (u .num) (sorted O p f) (sorted-small f)
 
-  pub sorted-below : (n : K .Mon) (f : Poly K) → Below O n f → Below O n (sorted O p f)
-  sorted-below n [] b = tt
-  sorted-below n (u ∷ f) b = insert-below n (u .mon) (u .num) (sorted O p f) (b .0) (sorted-below n f (b .1))
-
 -- Leaving out what is 0
 
+module _ {K : Monomials} (P : K .Mon → Type 0) where
+  keep-all : (m : K .Mon) (c : ℕ) (f : Poly K) → P m → All P f → All P (keep m c f)
+  keep-all m zero f h b = b
+  keep-all m (suc c) f h b = (h, b)
+
+  nonzero-all : (f : Poly K) → All P f → All P (nonzero f)
+  nonzero-all [] b = tt
+  nonzero-all (u ∷ f) b = keep-all (u .mon) (u .num) (nonzero f) (b .0) (nonzero-all f (b .1))
+
 module _ {K : Monomials} (O : Order K) where
-  keep-below : (n m : K .Mon) (c : ℕ) (f : Poly K) → O .less m n → Below O n f → Below O n (keep m c f)
-  keep-below n m zero f h b = b
-  keep-below n m (suc c) f h b = (h, b)
-
-  nonzero-below : (n : K .Mon) (f : Poly K) → Below O n f → Below O n (nonzero f)
-  nonzero-below n [] b = tt
-  nonzero-below n (u ∷ f) b = keep-below n (u .mon) (u .num) (nonzero f) (b .0) (nonzero-below n f (b .1))
-
   keep-normal : (p : ℕ) (m : K .Mon) (c : ℕ) (f : Poly K) → c < p → Below O m f → Normal O p f → Normal O p (keep m c f)
   keep-normal p m zero f h b n = n
   keep-normal p m (suc c) f h b n = record { falling = (b, n .falling); reduced = (omega arith, h, n .reduced) }
@@ -163,7 +173,7 @@ module _ {K : Monomials} (O : Order K) where
   nonzero-normal : (p : ℕ) (f : Poly K) → Falling O f → Small p f → Normal O p (nonzero f)
   nonzero-normal p [] d s = record { falling = tt; reduced = tt }
   nonzero-normal p (u ∷ f) d s =
-      keep-normal p (u .mon) (u .num) (nonzero f) (s .0) (nonzero-below (u .mon) f (d .0)) (nonzero-normal p f (d .1) (s .1))
+      keep-normal p (u .mon) (u .num) (nonzero f) (s .0) (nonzero-all (λ n. O .less n (u .mon)) f (d .0)) (nonzero-normal p f (d .1) (s .1))
 
 keep-total : {K : Monomials} (φ : K .Mon → ℕ) (m : K .Mon) (c : ℕ) (f : Poly K) → total φ (keep m c f) ≡ c * φ m + total φ f
 keep-total φ m zero f = omega arith
@@ -179,8 +189,8 @@ module _ {K : Monomials} (O : Order K) {p : ℕ} (pos : 0 < p) where
   pub norm-normal : (f : Poly K) → Normal O p (norm O p f)
   norm-normal f = nonzero-normal O p (sorted O p f) (sorted-falling O p pos f) (sorted-small O p pos f)
 
-  pub norm-below : (m : K .Mon) (f : Poly K) → Below O m f → Below O m (norm O p f)
-  norm-below m f b = nonzero-below O m (sorted O p f) (sorted-below O p pos m f b)
+  pub norm-all : (P : K .Mon → Type 0) (f : Poly K) → All P f → All P (norm O p f)
+  norm-all P f b = nonzero-all P (sorted O p f) (sorted-all O p pos P f b)
 
   pub norm-total : (φ : K .Mon → ℕ) (f : Poly K) → Same p (total φ (norm O p f)) (total φ f)
   norm-total φ f = same-trans (same-eq (nonzero-total φ (sorted O p f))) (sorted-total O p pos φ f)
@@ -248,7 +258,7 @@ module _ {K : Monomials} (O : Order K) {p : ℕ} (pos : 0 < p) where
   pub extract : (m : K .Mon) (c : ℕ) {f : Poly K} (rest : Poly K) → Equal p f (term m c ∷ rest) → Below O m rest → norm O p f ≡ keep m (c % p) (norm O p rest)
   extract m c {f} rest e b =
       normal-unique O _ _ (norm-normal O pos f)
-      (keep-normal O p m (c % p) (norm O p rest) (mod-lt c pos) (norm-below O pos m rest b) (norm-normal O pos rest))
+      (keep-normal O p m (c % p) (norm O p rest) (mod-lt c pos) (norm-all O pos (λ n. O .less n m) rest b) (norm-normal O pos rest))
       (equal-trans (norm-equal O pos f)
       (equal-trans e
       (equal-by

@@ -1,8 +1,9 @@
 -- The ring laws, up to equal coefficients: f ++ g is the sum, mul f g the product, negated p f the negative.
 --
---   sum-equal, sum-comm, sum-assoc, sum-cancel, sum-negated    of the sum
+--   sum-equal, sum-comm, sum-assoc, sum-cancel, sum-cancel-left, sum-negated    of the sum
 --   mul-equal, mul-comm, mul-assoc, mul-sum, sum-mul, mul-one    of the product
---   negated-equal, mul-negated, total-negated                  of the negative
+--   negated-equal, mul-negated, total-negated, coef-negated    of the negative
+--   difference-zero               polynomials whose difference is zero are equal
 --   move-over                     what is added on one side may be subtracted on the other
 use Prim.Native.Nat.{ℕ, zero, suc, _+_, _-_, _*_, _%_, _<_}
 use mathlib.Core.Path.{_≡_, refl, sym, _∙_, ap}
@@ -12,7 +13,7 @@ use native.Mathlib.Omega.{arith}
 use Rattle.algebra.specs.Residues.{Same}
 use Rattle.algebra.specs.Monomials.{Monomials}
 use Rattle.algebra.specs.Orders.{Order}
-use Rattle.algebra.specs.Polynomials.{Term, term, Poly, Equal, times, mul, negated}
+use Rattle.algebra.specs.Polynomials.{Term, term, Poly, coef, Equal, times, mul, negated}
 use Rattle.algebra.proofs.Residues.{
   same-eq,
   same-refl,
@@ -25,6 +26,8 @@ use Rattle.algebra.proofs.Residues.{
 }
 use Rattle.algebra.proofs.Totals.{
   total,
+  at,
+  coef-total,
   total-append,
   total-ext,
   total-same,
@@ -39,6 +42,10 @@ use Rattle.algebra.proofs.NormalForm.{equal-refl, equal-sym, equal-tran
 pub total-negated : {K : Monomials} (p : ℕ) (φ : K .Mon → ℕ) (f : Poly K) → total φ (negated p f) ≡ (p - 1) * total φ f
 total-negated p φ [] = omega arith
 total-negated p φ (u ∷ f) = omega (arith, total-negated p φ f)
+
+pub coef-negated : {K : Monomials} (p : ℕ) (f : Poly K) (m : K .Mon) → coef (negated p f) m ≡ (p - 1) * coef f m
+coef-negated {K} p f m =
+    coef-total (negated p f) m ∙ total-negated p (at K m) f ∙ ap (λ (x : ℕ). (p - 1) * x) (sym (coef-total f m))
 
 module _ {K : Monomials} {p : ℕ} where
   pub sum-comm : (f g : Poly K) → Equal p (f ++ g) (g ++ f)
@@ -143,6 +150,12 @@ module _ {K : Monomials} (O : Order K) {p : ℕ} (pos : 0 < p) where
       equal-by
       (λ φ. same-cancel (total φ h)
       (same-trans (same-eq (sym (total-append φ f h))) (same-trans (equal-total O pos φ e) (same-eq (total-append φ g h)))))
+
+  pub sum-cancel-left : {f g : Poly K} (h : Poly K) → Equal p (h ++ f) (h ++ g) → Equal p f g
+  sum-cancel-left {f} {g} h e = sum-cancel h (equal-trans (sum-comm f h) (equal-trans e (sum-comm h g)))
+
+  pub difference-zero : (f g : Poly K) → Equal p (f ++ negated p g) [] → Equal p f g
+  difference-zero f g e = sum-cancel (negated p g) (equal-trans e (equal-sym (sum-negated pos g)))
 
   pub move-over : {f : Poly K} (g h : Poly K) → Equal p f (g ++ h) → Equal p (f ++ negated p g) h
   move-over {f} g h e =

@@ -5,6 +5,7 @@
 --   total-plus, total-scale, total-zero, total-ext, total-swap    of sums of functions; two sums change places
 --   total-same                   the same modulo p where the functions are
 --   at K m, coef-total            a coefficient is a total
+--   coef-append                  the coefficients of a sum are the sums
 --   equal-by                     polynomials with the same totals are equal
 use Prim.Native.Nat.{ℕ, zero, suc, _+_, _-_, _*_, _%_}
 use mathlib.Core.Path.{_≡_, refl, sym, _∙_, ap}
@@ -73,6 +74,10 @@ module _ {K : Monomials} where
   pub coef-total : (f : Poly K) (m : K .Mon) → coef f m ≡ total (at K m) f
   coef-total [] m = refl
   coef-total (u ∷ f) m = omega (arith, only-scaled (K .decide (u .mon) m) (u .num), coef-total f m)
+
+  pub coef-append : (f g : Poly K) (m : K .Mon) → coef (f ++ g) m ≡ coef f m + coef g m
+  coef-append [] g m = omega arith
+  coef-append (u ∷ f) g m = omega (arith, coef-append f g m)
 
   pub equal-by : {p : ℕ} {f g : Poly K} → ((φ : K .Mon → ℕ) → Same p (total φ f) (total φ g)) → Equal p f g
   equal-by {p} {f} {g} e =

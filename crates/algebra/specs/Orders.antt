@@ -5,6 +5,7 @@
 --   Rising          whole numbers by size
 --   Lex k           monomials in k letters in lexicographic order, the first letter first
 --   Weight K        a number for each monomial that adds up under multiplication
+--   exponents k v, degrees k    the weights: the exponent of letter v, and the sum of the exponents
 --   Weighted O w    by the weight w, and by O where two weights are equal
 use Prim.Native.Nat.{ℕ, zero, suc, _+_, _<_}
 use mathlib.Core.Path.{_≡_, refl, sym, _∙_, ap, subst}
@@ -12,7 +13,7 @@ use mathlib.Core.Logic.{_⊎_, inl, inr}
 use native.Mathlib.Nat.{lt-irrefl, lt-trans}
 use native.Mathlib.Decide.{ℕ-discrete, decLt}
 use native.Mathlib.Omega.{arith}
-use Rattle.algebra.specs.Monomials.{Monomials, Numbers, constant, withLetter, Letters}
+use Rattle.algebra.specs.Monomials.{Monomials, Numbers, constant, withLetter, Letters, exponent, degree}
 
 pub data Tri (A B C : Type 0) : Type 0 where
   below : A → Tri A B C
@@ -128,3 +129,20 @@ Weighted {K} O w =
       compare = λ a b. second-compare (then-compare (w .weigh a) (w .weigh b) (compareNumbers (w .weigh a) (w .weigh b)) (O .compare a b));
       grows = λ c a b. weighted-grows (w .weigh c) (w .weigh a) (w .weigh b) _ _ (w .adds c a) (w .adds c b) (O .grows c a b);
     }
+
+-- the exponent of one letter, and the sum of all exponents, add up
+
+pub exponent-adds : (k v : ℕ) (a b : Letters k .Mon) → exponent k v (Letters k .mul a b) ≡ exponent k v a + exponent k v b
+exponent-adds zero v a b = refl
+exponent-adds (suc k) zero a b = refl
+exponent-adds (suc k) (suc v) a b = exponent-adds k v (a .1) (b .1)
+
+pub degree-adds : (k : ℕ) (a b : Letters k .Mon) → degree k (Letters k .mul a b) ≡ degree k a + degree k b
+degree-adds zero a b = refl
+degree-adds (suc k) a b = omega (arith, degree-adds k (a .1) (b .1))
+
+abbrev pub exponents : (k v : ℕ) → Weight (Letters k)
+exponents k v = record { weigh = exponent k v; adds = exponent-adds k v }
+
+abbrev pub degrees : (k : ℕ) → Weight (Letters k)
+degrees k = record { weigh = degree k; adds = degree-adds k }

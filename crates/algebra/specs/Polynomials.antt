@@ -11,6 +11,7 @@
 --   largest w f       the largest w of a monomial of f, 0 where f has no term: M(f, v) for w the exponent of v
 --   sorted O p f      f with one term for each monomial that stands in it, the greatest first, numbers below p, perhaps 0
 --   norm O p f        the same without the terms whose number is 0: the normal form
+--   NoMultiple p m f  no term of f is divisible by m: the coefficient of f at every multiple of m is 0 modulo p
 --   Normal O p f      f is its own normal form: monomials fall, numbers are 1 to p − 1
 use Prim.Native.Nat.{ℕ, zero, suc, _+_, _-_, _*_, _%_, _<_, max}
 use mathlib.Core.Path.{_≡_}
@@ -57,6 +58,9 @@ abbrev pub largest : {K : Monomials} → (K .Mon → ℕ) → Poly K → ℕ
 largest w [] = 0
 largest w (u ∷ f) = max (w (u .mon)) (largest w f)
 
+pub record NoMultiple {K : Monomials} (p : ℕ) (m : K .Mon) (f : Poly K) : Type 0 where
+  pub none : (q : K .Mon) → Same p (coef f (K .mul m q)) 0
+
 -- The normal form
 
 -- the term at m, left out where its number is 0
@@ -86,11 +90,15 @@ module _ {K : Monomials} (O : Order K) (p : ℕ) where
   abbrev pub norm : Poly K → Poly K
   norm f = nonzero (sorted f)
 
+-- every monomial of f has the property P
+abbrev pub All : {K : Monomials} → (K .Mon → Type 0) → Poly K → Type 0
+All P [] = Unit {0}
+All P (u ∷ f) = P (u .mon) × All P f
+
 module _ {K : Monomials} (O : Order K) where
   -- every monomial of f is below m
   abbrev pub Below : K .Mon → Poly K → Type 0
-  Below m [] = Unit {0}
-  Below m (u ∷ f) = O .less (u .mon) m × Below m f
+  Below m f = All (λ n. O .less n m) f
 
   abbrev pub Falling : Poly K → Type 0
   Falling [] = Unit {0}
