@@ -77,7 +77,7 @@ module _ {K : Monomials} (O : Order K) where
             (mul-below m u f g (b .1) d),
       )
 
-keep-positive : {K : Monomials} (m : K .Mon) (c : ℕ) (f : Poly K) → 0 < c → keep m c f ≡ term m c ∷ f
+pub keep-positive : {K : Monomials} (m : K .Mon) (c : ℕ) (f : Poly K) → 0 < c → keep m c f ≡ term m c ∷ f
 keep-positive m zero f h = absurd (omega arith)
 keep-positive m (suc c) f h = refl
 

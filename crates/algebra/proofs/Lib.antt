@@ -7,3 +7,5 @@ pub mod NormalForm
 pub mod Ring
 pub mod Leads
 pub mod Degrees
+pub mod Walk
+pub mod Exact

@@ -40,17 +40,21 @@ abbrev pub toRemainder : {K : Monomials} → ℕ → Term K → Poly K → Walke
 toRemainder zero t f w = record { reply = w .reply; quotient = w .quotient; remainder = t ∷ w .remainder; left = w .left }
 toRemainder (suc r) t f w = stopped (suc r) f
 
-module _ {K : Monomials} (O : Order K) (p : ℕ) (lead : Term K) (later : Poly K) (J : Judges K) where
-  -- the quotient's term: u divided by the divisor's lead term, where m is the quotient of the monomials
-  abbrev pub quotientTerm : K .Mon → Term K → Term K
-  quotientTerm m u = term m (u .num * inverse p (lead .num) % p)
+-- the term u divided by the divisor's lead term, where m is the quotient of their monomials
+abbrev pub quotientTerm : {K : Monomials} → ℕ → Term K → K .Mon → Term K → Term K
+quotientTerm p lead m u = term m (u .num * inverse p (lead .num) % p)
 
+-- what remains of f, which stood below the term divided, when the quotient term t times the divisor is subtracted
+abbrev pub remains : {K : Monomials} → Order K → ℕ → Poly K → Term K → Poly K → Poly K
+remains O p later t f = sorted O p (f ++ negated p (times t later))
+
+module _ {K : Monomials} (O : Order K) (p : ℕ) (lead : Term K) (later : Poly K) (J : Judges K) where
   -- The greatest monomial's term is u, its number c; `next` walks on from the terms written and what is left.
   abbrev pub handle : (ℕ → ℕ → Poly K → Walked K) → ℕ → ℕ → (u : Term K) → Poly K → ℕ → Dec ((q : K .Mon) × (K .mul (lead .mon) q ≡ u .mon)) → Walked K
   handle next i j u f zero d = next i j f
   handle next i j u f (suc c) (yes q) =
-      let t = quotientTerm (q .0) u in
-      let w = next (suc i) j (sorted O p (f ++ negated p (times t later))) in
+      let t = quotientTerm p lead (q .0) u in
+      let w = next (suc i) j (remains O p later t f) in
       toQuotient (J .onQuotient i t) t (u ∷ f) w
   handle next i j u f (suc c) (no n) =
       let w = next i (suc j) f in
