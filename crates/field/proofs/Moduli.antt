@@ -1,0 +1,45 @@
+-- Laws of moduli.
+--
+--   modulus-prime, modulus-within    a modulus is a prime, and at most the limit
+--   modulus-of                       and a prime up to the limit is a modulus
+--   modulus-passed, modulus-refused  reply 0 says that p is a modulus, any other that it is not
+use Prim.Native.Nat.{ℕ, _≤_}
+use mathlib.Core.Path.{_≡_, refl}
+use mathlib.Core.Bool.{Bool, true, false, _&&_}
+use native.Mathlib.Omega.{arith}
+use borrow.Author.Tests.{leb-true, le-leb}
+use Rattle.algebra.specs.Residues.{Prime, isPrime, pick}
+use Rattle.algebra.proofs.Primes.{prime-of-test, test-of-prime}
+use Rattle.field.specs.Moduli.{limit, isModulus, modulusOf}
+
+both : (a b : Bool) → (a && b) ≡ true → (a ≡ true) × (b ≡ true)
+both true b e = (refl, e)
+both false b e = absurd (let z : _≡_ {A = ℕ} 0 1 = cc in omega arith)
+
+pub modulus-prime : {p : ℕ} → isModulus p ≡ true → Prime p
+unfolding isModulus
+modulus-prime e = prime-of-test (both _ _ e .1)
+
+pub modulus-within : {p : ℕ} → isModulus p ≡ true → p ≤ limit
+unfolding isModulus
+modulus-within e = leb-true _ _ (both _ _ e .0)
+
+pub modulus-of : {p : ℕ} → Prime p → p ≤ limit → isModulus p ≡ true
+unfolding isModulus
+modulus-of P h = rw (le-leb _ _ h) (test-of-prime P)
+
+picked-zero : (b : Bool) → pick {A = ℕ} b 0 1 ≡ 0 → b ≡ true
+picked-zero true e = refl
+picked-zero false e = absurd (omega arith)
+
+picked-one : (b : Bool) → (pick {A = ℕ} b 0 1 ≡ 0 → ⊥) → b ≡ false
+picked-one true n = absurd (n refl)
+picked-one false n = refl
+
+pub modulus-passed : (p : ℕ) → modulusOf p ≡ 0 → isModulus p ≡ true
+unfolding modulusOf
+modulus-passed p e = picked-zero _ e
+
+pub modulus-refused : (p : ℕ) → (modulusOf p ≡ 0 → ⊥) → isModulus p ≡ false
+unfolding modulusOf
+modulus-refused p n = picked-one _ n

@@ -1,0 +1,55 @@
+-- What each field operation answers: a number, 0 or that of a refusal, and a value, 0 beside a refusal.
+-- Refusal 1 comes first, where p is not a modulus; then 6, where an operand is not what it has to be.
+--
+--   sumOf p a b          a + b modulo p
+--   productOf p a b      a · b modulo p
+--   inverseOf p a        the x from 1 to p − 1 with a · x ≡ 1 modulo p; 0 has none
+--   balancedOf p c       the balanced value of c: c where 2c is at most p, else c − p
+--   residueOf p n        the residue of the whole number n, from 0 to p − 1; none is refused by 6
+use Prim.Native.Nat.{ℕ, _+_, _-_, _*_, _%_}
+use mathlib.Core.Bool.{Bool, true, _&&_}
+use lib.Dec.{leb, ltb}
+use lib.IntN.{ℤ, pos, negsuc, subℕ}
+use Rattle.algebra.specs.Residues.{inverse, pick}
+use Rattle.field.specs.Moduli.{isModulus}
+use Rattle.field.specs.declared.Value.{Value}
+use Rattle.field.specs.declared.Balance.{Balance}
+
+-- the answer v; 1 in its place where p is not a modulus, and then 6 where the operands are not good
+abbrev pub orRefused : {A : Type 0} → (ℕ → A) → ℕ → Bool → A → A
+orRefused refused p good v = pick (isModulus p) (pick good v (refused 6)) (refused 1)
+
+-- Answers with a value from 0 to p − 1
+
+abbrev pub value : ℕ → Value
+value v = record { number = 0; value = v }
+
+abbrev pub noValue : ℕ → Value
+noValue r = record { number = r; value = 0 }
+
+unfoldable pub sumOf : ℕ → ℕ → ℕ → Value
+sumOf p a b = orRefused noValue p (ltb a p && ltb b p) (value ((a + b) % p))
+
+unfoldable pub productOf : ℕ → ℕ → ℕ → Value
+productOf p a b = orRefused noValue p (ltb a p && ltb b p) (value (a * b % p))
+
+unfoldable pub inverseOf : ℕ → ℕ → Value
+inverseOf p a = orRefused noValue p (ltb 0 a && ltb a p) (value (inverse p a))
+
+-- The balanced value, and back
+
+unfoldable pub balancedValue : ℕ → ℕ → ℤ
+balancedValue p c = pick (leb (2 * c) p) (pos c) (subℕ c p)
+
+unfoldable pub balancedOf : ℕ → ℕ → Balance
+balancedOf p c =
+    orRefused (λ r. record { number = r; value = pos 0 }) p (ltb c p)
+    (record { number = 0; value = balancedValue p c })
+
+-- of −(n + 1), which is `negsuc n`: what is left to p from the residue of n + 1, and 0 where that residue is 0
+unfoldable pub residueValue : ℕ → ℤ → ℕ
+residueValue p (pos n) = n % p
+residueValue p (negsuc n) = (p - (n + 1) % p) % p
+
+unfoldable pub residueOf : ℕ → ℤ → Value
+residueOf p n = orRefused noValue p true (value (residueValue p n))

@@ -1,0 +1,3 @@
+-- What the field operations answer.
+pub mod Moduli
+pub mod Answers
