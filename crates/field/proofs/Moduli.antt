@@ -2,11 +2,12 @@
 --
 --   modulus-prime, modulus-within    a modulus is a prime, and at most the limit
 --   modulus-of                       and a prime up to the limit is a modulus
---   modulus-passed, modulus-refused  reply 0 says that p is a modulus, any other that it is not
+--   modulus-passed, modulus-refused  a reply r of 0 says that p is a modulus, any other that it is not
 use Prim.Native.Nat.{ℕ, _≤_}
-use mathlib.Core.Path.{_≡_, refl}
+use mathlib.Core.Path.{_≡_, refl, sym, _∙_}
 use mathlib.Core.Bool.{Bool, true, false, _&&_}
 use native.Mathlib.Omega.{arith}
+use lib.Dec.{leb}
 use borrow.Author.Tests.{leb-true, le-leb}
 use Rattle.algebra.specs.Residues.{Prime, isPrime, pick}
 use Rattle.algebra.proofs.Primes.{prime-of-test, test-of-prime}
@@ -18,11 +19,11 @@ both false b e = absurd (let z : _≡_ {A = ℕ} 0 1 = cc in omega arith)
 
 pub modulus-prime : {p : ℕ} → isModulus p ≡ true → Prime p
 unfolding isModulus
-modulus-prime e = prime-of-test (both _ _ e .1)
+modulus-prime {p} e = prime-of-test (both (leb p limit) (isPrime p) e .1)
 
 pub modulus-within : {p : ℕ} → isModulus p ≡ true → p ≤ limit
 unfolding isModulus
-modulus-within e = leb-true _ _ (both _ _ e .0)
+modulus-within {p} e = leb-true _ _ (both (leb p limit) (isPrime p) e .0)
 
 pub modulus-of : {p : ℕ} → Prime p → p ≤ limit → isModulus p ≡ true
 unfolding isModulus
@@ -36,10 +37,10 @@ picked-one : (b : Bool) → (pick {A = ℕ} b 0 1 ≡ 0 → ⊥) → b ≡ false
 picked-one true n = absurd (n refl)
 picked-one false n = refl
 
-pub modulus-passed : (p : ℕ) → modulusOf p ≡ 0 → isModulus p ≡ true
+pub modulus-passed : (p : ℕ) {r : ℕ} → r ≡ modulusOf p → r ≡ 0 → isModulus p ≡ true
 unfolding modulusOf
-modulus-passed p e = picked-zero _ e
+modulus-passed p f e = picked-zero _ (sym f ∙ e)
 
-pub modulus-refused : (p : ℕ) → (modulusOf p ≡ 0 → ⊥) → isModulus p ≡ false
+pub modulus-refused : (p : ℕ) {r : ℕ} → r ≡ modulusOf p → (r ≡ 0 → ⊥) → isModulus p ≡ false
 unfolding modulusOf
-modulus-refused p n = picked-one _ n
+modulus-refused p f n = picked-one _ (λ e. n (f ∙ e))
