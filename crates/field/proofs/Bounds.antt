@@ -15,6 +15,7 @@ product-fits a b h k = record { fits = let m : a * b ≤ limit * limit = mul-le-
 
 pub root-small : (d : ℕ) → d * d ≤ limit → d < 65536
 root-small d h =
-    elim (decLt d 65536)
-    [ yes k ↦ k
-    | no k ↦ absurd (let l : 65536 ≤ d = omega arith in let m : 65536 * 65536 ≤ d * d = mul-le-mul l l in omega arith) ]
+    elim (decLt d 65536) [
+      | yes k ↦ k
+      | no k ↦ absurd (let l : 65536 ≤ d = omega arith in let m : 65536 * 65536 ≤ d * d = mul-le-mul l l in omega arith)
+    ]

@@ -48,7 +48,7 @@ factor-step {p} a q t u r s r′ h e f g =
     let k : w < p = mod-lt (q * u) h in
     let l : p - w + w ≡ p = omega arith in
     let back : Same p (q * s) (a * w) =
-        same-trans (same-mul-left q (same-sym f)) (same-trans (same-eq (omega arith)) (same-mul-left a (same-sym (same-mod (q * u))))) in
+    same-trans (same-mul-left q (same-sym f)) (same-trans (same-eq (omega arith)) (same-mul-left a (same-sym (same-mod (q * u))))) in
     let round : a * (t + (p - w)) + a * w ≡ a * t + a * p = omega (arith, ap (λ (x : ℕ). a * x) l) in
     same-cancel (q * s)
     (same-trans (same-add (same-mul-left a (same-mod (t + (p - w)))) back)
@@ -71,7 +71,8 @@ remainders-step {p} {a} {r} {s} {t} {u} R h =
 pub remainders-inverse : {p a r s t u : ℕ} → Prime p → Remainders p a r s t u → s ≤ 1 → u ≡ inverse p a
 remainders-inverse {p} {a} {r} {s} {t} {u} P R h =
     let e : s ≡ 1 =
-        elim (ℕ-discrete s 0)
-        [ yes z ↦ absurd (let o : r ≡ 1 = R .coprime r (dvd-refl r) (rw z (dvd-zero r)) in omega arith)
-        | no n ↦ omega arith ] in
+    elim (ℕ-discrete s 0) [
+      | yes z ↦ absurd (let o : r ≡ 1 = R .coprime r (dvd-refl r) (rw z (dvd-zero r)) in omega arith)
+      | no n ↦ omega arith
+    ] in
     inverse-unique P a (R .next-below) (same-trans (R .next-same) (same-eq e))

@@ -25,23 +25,27 @@ pub tried-more : {p d : ℕ} → Tried p d → (p % d ≡ 0 → ⊥) → Tried p
 tried-more {p} {d} T n =
     record {
       none = λ j h k e.
-          elim (decLt j d)
-          [ yes l ↦ T .none j h l e
-          | no l ↦ let f : j ≡ d = omega arith in n (rw f at e) ];
+          elim (decLt j d) [
+            | yes l ↦ T .none j h l e
+            | no l ↦ let f : j ≡ d = omega arith in n (rw f at e)
+          ];
     }
 
 -- Where two factors make p and the first is d or more, the second is below d, and so 1.
 second-factor : {p d : ℕ} → Tried p d → p < d * d → (c e : ℕ) → d ≤ c → 0 < p → c * e ≡ p → p % e ≡ 0 → c ≡ p
 second-factor {p} {d} T h c e k l f z =
-    elim (decLt e d)
-    [ no m ↦ absurd (let g : d * d ≤ c * e = mul-le-mul k (omega arith) in omega arith)
-    | yes m ↦
-    elim (ℕ-discrete e 1)
-    [ yes o ↦ omega (arith, rw o at f)
-    | no o ↦
-    elim (ℕ-discrete e 0)
-    [ yes w ↦ absurd (omega (arith, rw w at f))
-    | no w ↦ absurd (T .none e (omega arith) m z) ] ] ]
+    elim (decLt e d) [
+      | no m ↦ absurd (let g : d * d ≤ c * e = mul-le-mul k (omega arith) in omega arith)
+      | yes m ↦
+          elim (ℕ-discrete e 1) [
+            | yes o ↦ omega (arith, rw o at f)
+            | no o ↦
+                elim (ℕ-discrete e 0) [
+                  | yes w ↦ absurd (omega (arith, rw w at f))
+                  | no w ↦ absurd (T .none e (omega arith) m z)
+                ]
+          ]
+    ]
 
 pub tried-prime : {p d : ℕ} → 2 ≤ p → Tried p d → p < d * d → isPrime p ≡ true
 tried-prime {p} {d} two T h = test-of-prime (record { two = two; only = only })
@@ -50,12 +54,14 @@ tried-prime {p} {d} two T h = test-of-prime (record { two = two; only = only })
     only c k =
         let l : 0 < c = pos-of-dvd-of-pos k (omega arith) in
         let f : c * (p / c) ≡ p = mul-div-cancel' c k in
-        elim (ℕ-discrete c 1)
-        [ yes e ↦ inl e
-        | no n ↦
-        elim (decLt c d)
-        [ yes m ↦ absurd (T .none c (omega arith) m (mod-eq-zero-of-dvd c k))
-        | no m ↦ inr (second-factor T h c (p / c) (omega arith) (omega arith) f (mod-eq-zero-of-dvd (p / c) (rw f at (dvd-mul-left (p / c) c)))) ] ]
+        elim (ℕ-discrete c 1) [
+          | yes e ↦ inl e
+          | no n ↦
+              elim (decLt c d) [
+                | yes m ↦ absurd (T .none c (omega arith) m (mod-eq-zero-of-dvd c k))
+                | no m ↦ inr (second-factor T h c (p / c) (omega arith) (omega arith) f (mod-eq-zero-of-dvd (p / c) (rw f at (dvd-mul-left (p / c) c))))
+              ]
+        ]
 
 refuted : (b : Bool) → (b ≡ true → ⊥) → b ≡ false
 refuted true n = absurd (n refl)

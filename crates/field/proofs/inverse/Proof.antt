@@ -40,11 +40,12 @@ returns-3 c =
     ∙ rw (is-modulus (c .before .before .before), lt-ltb _ _ (pos-of-ne-zero (c .before .before .if2 .left)), le-ltb _ _ (c .before .if3 .taken))
 
 inverse-mod-requires : tie.Need-inverse-mod-requires
-inverse-mod-requires c κs =
-    (modulus-within (is-modulus (c .before .before)),
-    modulus-prime (is-modulus (c .before .before)),
-    pos-of-ne-zero (c .before .if2 .left),
-    c .if3 .left)
+inverse-mod-requires c κs = (
+  modulus-within (is-modulus (c .before .before)),
+  modulus-prime (is-modulus (c .before .before)),
+  pos-of-ne-zero (c .before .if2 .left),
+  c .if3 .left,
+)
 
 returns-4 : tie.Need-returns-4
 unfolding inverseOf

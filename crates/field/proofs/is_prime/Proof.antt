@@ -36,10 +36,11 @@ loop-less : tie.Need-loop-less Inv-loop μ-loop
 loop-less c = omega (arith, root-small (c .before .before .loop .d) (omega arith))
 
 loop-again : tie.Need-loop-again Inv-loop μ-loop
-loop-again c =
-    (omega arith,
-    omega (arith, root-small (c .before .before .loop .d) (omega arith)),
-    tried-more (c .before .before .loop .inv .2) (c .if2 .left))
+loop-again c = (
+  omega arith,
+  omega (arith, root-small (c .before .before .loop .d) (omega arith)),
+  tried-more (c .before .before .loop .inv .2) (c .if2 .left),
+)
 
 returns-3 : tie.Need-returns-3 Inv-loop μ-loop
 returns-3 c = sym (tried-prime (c .before .before .if1 .left) (c .before .loop .inv .2) (c .loop-test .left))
