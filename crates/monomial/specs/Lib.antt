@@ -1,0 +1,3 @@
+-- Words of packed exponents. Read in this order.
+pub mod Layout
+pub mod Answers
