@@ -1,0 +1,2 @@
+-- The laws of words, in the order in which they build on one another.
+pub mod Fields
