@@ -29,7 +29,7 @@ same-test true b f g = sym (f refl)
 same-test false true f g = g refl
 same-test false false f g = refl
 
-both-swap : (a b c d : Bool) → (a && b && (c && d)) ≡ (a && c && (b && d))
+pub both-swap : (a b c d : Bool) → (a && b && (c && d)) ≡ (a && c && (b && d))
 both-swap true b true d = refl
 both-swap true true false d = refl
 both-swap true false false d = refl
@@ -115,6 +115,14 @@ module _ (w : ℕ) where
   pub fits-held : (k : ℕ) (m : Letters k .Mon) → fits w k m ≡ true → Held k m
   fits-held zero m h = tt
   fits-held (suc k) m h = (omega (arith, fits-first k m h, largest-twice w), fits-held k (m .1) (fits-rest k m h))
+
+  pub fits-one : (k : ℕ) → fits w k (Letters k .one) ≡ true
+  fits-one zero = refl
+  fits-one (suc k) = fits-more k (Letters (suc k) .one) (omega arith) (fits-one k)
+
+  pub over-fits : (k : ℕ) (a b : Letters k .Mon) → fits w k b ≡ true → fits w k (over k b a) ≡ true
+  over-fits zero a b h = refl
+  over-fits (suc k) a b h = fits-more k (over (suc k) b a) (omega (arith, fits-first k b h)) (over-fits k (a .1) (b .1) (fits-rest k b h))
 
   pub product-held : (k : ℕ) (a b : Letters k .Mon) → fits w k a ≡ true → fits w k b ≡ true → Held k (Letters k .mul a b)
   product-held zero a b h g = tt
@@ -230,7 +238,7 @@ joined-word bits w (suc (suc k)) m h l =
 
 -- Masks, for fields of suc v bits
 
-or-below : (j a b : ℕ) → ltb (bitOr a b) (2 ^ j) ≡ (ltb a (2 ^ j) && ltb b (2 ^ j))
+pub or-below : (j a b : ℕ) → ltb (bitOr a b) (2 ^ j) ≡ (ltb a (2 ^ j) && ltb b (2 ^ j))
 or-below j a b =
     same-test (ltb (bitOr a b) (2 ^ j)) (ltb a (2 ^ j) && ltb b (2 ^ j))
     (λ t.
@@ -308,7 +316,7 @@ module _ (v : ℕ) where
       ∙ digits-eqb (2 ^ j) (bitAnd top (2 ^ v)) (bitAnd rest (guards k)) 0 0 (and-lt j rest (guards k) below (guards-bound k)) (pow-pos j)
       ∙ (λ i. guard-test top (exponents-held (suc v) (suc k) word h .0) i && guards-test k rest below i)
 
-  guards-cover : (k : ℕ) (m : Letters k .Mon) → fits (suc v) k m ≡ true → wordOf (suc v) k m ≤ guards k
+  pub guards-cover : (k : ℕ) (m : Letters k .Mon) → fits (suc v) k m ≡ true → wordOf (suc v) k m ≤ guards k
   guards-cover zero m h = omega arith
   guards-cover (suc k) m h =
       let l : m .0 ≤ 2 ^ v = omega (arith, fits-first (suc v) k m h, largest-suc v) in

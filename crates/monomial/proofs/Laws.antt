@@ -1,0 +1,201 @@
+-- Laws of monomial words, for any layout: order is `<` on words, the product is the sum, and the quotient the difference.
+--
+--   monomial-below, monomial-fits, monomial-word   a monomial word has only the fields' bits, its exponents fit, and they give it back
+--   word-monomial          the word of exponents is a monomial word just where they fit
+--   one-monomial           0 is the word of 1
+--   less-word              word order is the lexicographic order of the exponents
+--   sum-exponents          the fields of the sum of two monomial words are the sums of the fields
+--   sum-monomial           the sum of two monomial words is one just where the product of their exponents fits
+--   product-sum            the product's word, where no exponent bursts, is the sum
+--   divides-monomials, divides-le   what divides and what is divided are monomial words, the first at most the second
+--   divides-iff            m divides n just where m + q ≡ n for some monomial word q
+--   quotient-difference    the quotient's word is the difference
+--   word-divides           of words of exponents that fit, the first divides the second just where its exponents do
+--   Coding, coding         the same facts as one record, for any order of monomials; the layout's own coding
+use Prim.Native.Nat.{ℕ, zero, suc, _+_, _-_, _*_, _^_, _≤_, _<_}
+use mathlib.Core.Path.{_≡_, refl, sym, _∙_, ap, subst}
+use mathlib.Core.Bool.{Bool, true, false, _&&_}
+use mathlib.Core.Logic.{_↔_, Iff·trans}
+use native.Mathlib.Omega.{arith}
+use lib.Dec.{ltb}
+use borrow.Author.Tests.{ltb-true, lt-ltb}
+use Rattle.algebra.specs.Monomials.{Monomials, Letters}
+use Rattle.algebra.specs.Orders.{Order, Lex}
+use Rattle.algebra.specs.Residues.{pick}
+use Rattle.monomial.specs.Layout.{Layout, exponentsOf, wordOf, fits, isMonomial, divides, over, dividesOf}
+use Rattle.monomial.specs.Answers.{done, refused, productOf, quotientOf}
+use Rattle.monomial.proofs.Fields.{both-true, both, same-test, Held, fits-held, fits-one, product-held, exponents-held, word-bound, exponents-word, word-exponents, word-one, word-mul, word-less, factor-fits, divides-mul, over-mul, over-fits}
+
+module _ (l : Layout) where
+  abbrev pub read : ℕ → Letters (l .count) .Mon
+  read word = exponentsOf (l .width) (l .count) word
+
+  abbrev pub write : Letters (l .count) .Mon → ℕ
+  write a = wordOf (l .width) (l .count) a
+
+  abbrev pub fit : Letters (l .count) .Mon → Bool
+  fit a = fits (l .width) (l .count) a
+
+  abbrev pub times : Letters (l .count) .Mon → Letters (l .count) .Mon → Letters (l .count) .Mon
+  times a b = Letters (l .count) .mul a b
+
+  abbrev pub room : ℕ
+  room = 2 ^ (l .width * l .count)
+
+  pub monomial-below : (m : ℕ) → isMonomial l m ≡ true → m < room
+  unfolding isMonomial
+  monomial-below m h = ltb-true m room (both-true (ltb m room) (fit (read m)) h .0)
+
+  pub monomial-fits : (m : ℕ) → isMonomial l m ≡ true → fit (read m) ≡ true
+  unfolding isMonomial
+  monomial-fits m h = both-true (ltb m room) (fit (read m)) h .1
+
+  pub monomial-test : (m : ℕ) → m < room → isMonomial l m ≡ fit (read m)
+  unfolding isMonomial
+  monomial-test m h = ap (λ t. t && fit (read m)) (lt-ltb m room h)
+
+  pub monomial-word : (m : ℕ) → isMonomial l m ≡ true → write (read m) ≡ m
+  monomial-word m h = word-exponents (l .width) (l .count) m (monomial-below m h)
+
+  held-monomial : (a : Letters (l .count) .Mon) → Held (l .width) (l .count) a → isMonomial l (write a) ≡ fit a
+  held-monomial a h = monomial-test (write a) (word-bound (l .width) (l .count) a h) ∙ ap fit (exponents-word (l .width) (l .count) a h)
+
+  pub word-monomial : (a : Letters (l .count) .Mon) → fit a ≡ true → isMonomial l (write a) ≡ true
+  word-monomial a h = held-monomial a (fits-held (l .width) (l .count) a h) ∙ h
+
+  pub word-read : (a : Letters (l .count) .Mon) → fit a ≡ true → read (write a) ≡ a
+  word-read a h = exponents-word (l .width) (l .count) a (fits-held (l .width) (l .count) a h)
+
+  pub one-monomial : isMonomial l 0 ≡ true
+  one-monomial =
+      ap (isMonomial l) (sym (word-one (l .width) (l .count))) ∙ word-monomial (Letters (l .count) .one) (fits-one (l .width) (l .count))
+
+  module _ (m n : ℕ) where
+    pub less-word : isMonomial l m ≡ true → isMonomial l n ≡ true → Lex (l .count) .less (read m) (read n) ↔ (m < n)
+    less-word h g =
+        rw (monomial-word m h, monomial-word n g) at
+        (word-less (l .width) (l .count) (read m) (read n) (fits-held (l .width) (l .count) (read m) (monomial-fits m h)) (fits-held (l .width) (l .count) (read n) (monomial-fits n g)))
+
+    sum-word : m < room → n < room → write (times (read m) (read n)) ≡ m + n
+    sum-word h g =
+        word-mul (l .width) (l .count) (read m) (read n)
+        ∙ (λ i. word-exponents (l .width) (l .count) m h i + word-exponents (l .width) (l .count) n g i)
+
+    sum-held : isMonomial l m ≡ true → isMonomial l n ≡ true → Held (l .width) (l .count) (times (read m) (read n))
+    sum-held h g = product-held (l .width) (l .count) (read m) (read n) (monomial-fits m h) (monomial-fits n g)
+
+    pub sum-below : isMonomial l m ≡ true → isMonomial l n ≡ true → m + n < room
+    sum-below h g =
+        rw (sum-word (monomial-below m h) (monomial-below n g)) at (word-bound (l .width) (l .count) (times (read m) (read n)) (sum-held h g))
+
+    pub sum-exponents : isMonomial l m ≡ true → isMonomial l n ≡ true → read (m + n) ≡ times (read m) (read n)
+    sum-exponents h g =
+        ap read (sym (sum-word (monomial-below m h) (monomial-below n g))) ∙ exponents-word (l .width) (l .count) (times (read m) (read n)) (sum-held h g)
+
+    pub sum-monomial : isMonomial l m ≡ true → isMonomial l n ≡ true → isMonomial l (m + n) ≡ fit (times (read m) (read n))
+    sum-monomial h g = monomial-test (m + n) (sum-below h g) ∙ ap fit (sum-exponents h g)
+
+    product-test : m < room → n < room → fit (times (read m) (read n)) ≡ (isMonomial l m && isMonomial l n && isMonomial l (m + n))
+    product-test h g =
+        same-test (fit (times (read m) (read n))) (isMonomial l m && isMonomial l n && isMonomial l (m + n))
+        (λ t.
+        let hm = monomial-test m h ∙ factor-fits (l .width) (l .count) (read m) (read n) t in
+        let c = ap fit (Letters (l .count) .mul-comm (read n) (read m)) in
+        let hn = monomial-test n g ∙ factor-fits (l .width) (l .count) (read n) (read m) (c ∙ t) in
+        both (both hm hn) (sum-monomial hm hn ∙ t))
+        (λ t.
+        let s = both-true (isMonomial l m && isMonomial l n) (isMonomial l (m + n)) t in
+        let r = both-true (isMonomial l m) (isMonomial l n) (s .0) in
+        sym (sum-monomial (r .0) (r .1)) ∙ s .1)
+
+    pub product-sum : m < room → n < room → productOf l m n ≡ pick (isMonomial l m && isMonomial l n && isMonomial l (m + n)) (done (m + n)) (refused 9)
+    product-sum h g = λ i. pick (product-test h g i) (done (sum-word h g i)) (refused 9)
+
+  module _ (m n : ℕ) where
+    pub divides-monomials : dividesOf l m n ≡ true → (isMonomial l m ≡ true) × (isMonomial l n ≡ true)
+    unfolding dividesOf
+    divides-monomials d = both-true (isMonomial l m) (isMonomial l n) (both-true (isMonomial l m && isMonomial l n) (divides (l .count) (read m) (read n)) d .0)
+
+    pub divides-exponents : isMonomial l m ≡ true → isMonomial l n ≡ true → dividesOf l m n ≡ divides (l .count) (read m) (read n)
+    unfolding dividesOf
+    divides-exponents h g = ap (λ t. t && divides (l .count) (read m) (read n)) (both h g)
+
+    quotient-word : dividesOf l m n ≡ true → m + write (over (l .count) (read n) (read m)) ≡ n
+    quotient-word d =
+        let h = divides-monomials d in
+        let q = over (l .count) (read n) (read m) in
+        let e = word-mul (l .width) (l .count) (read m) q in
+        let f = ap write (over-mul (l .count) (read m) (read n) (sym (divides-exponents (h .0) (h .1)) ∙ d)) in
+        ap (λ x. x + write q) (sym (monomial-word m (h .0))) ∙ sym e ∙ f ∙ monomial-word n (h .1)
+
+    pub divides-iff : isMonomial l m ≡ true → isMonomial l n ≡ true → (dividesOf l m n ≡ true) ↔ ((q : ℕ) × ((isMonomial l q ≡ true) × (m + q ≡ n)))
+    divides-iff h g = (
+      λ d.
+          let q = over (l .count) (read n) (read m) in
+          (write q, (word-monomial q (over-fits (l .width) (l .count) (read m) (read n) (monomial-fits n g)), quotient-word d)),
+      λ f.
+          let e : read n ≡ times (read m) (read (f .0)) = ap read (sym (f .1 .1)) ∙ sum-exponents m (f .0) h (f .1 .0) in
+          divides-exponents h g ∙ ap (divides (l .count) (read m)) e ∙ divides-mul (l .count) (read m) (read (f .0)),
+    )
+
+    pub divides-le : dividesOf l m n ≡ true → m ≤ n
+    divides-le d = omega (arith, quotient-word d)
+
+    pub quotient-difference : quotientOf l n m ≡ pick (dividesOf l m n) (done (n - m)) (refused 12)
+    quotient-difference = go (dividesOf l m n) refl
+      where
+        go : (t : Bool) → dividesOf l m n ≡ t → pick t (done (write (over (l .count) (read n) (read m)))) (refused 12) ≡ pick t (done (n - m)) (refused 12)
+        go true d = let e : write (over (l .count) (read n) (read m)) ≡ n - m = omega (arith, quotient-word d) in λ i. done (e i)
+        go false d = refl
+
+  pub word-divides : (a b : Letters (l .count) .Mon) → fit a ≡ true → fit b ≡ true → (dividesOf l (write a) (write b) ≡ true) ↔ ((q : Letters (l .count) .Mon) × (times a q ≡ b))
+  word-divides a b h g =
+      let e : dividesOf l (write a) (write b) ≡ divides (l .count) a b =
+      divides-exponents (write a) (write b) (word-monomial a h) (word-monomial b g) ∙ (λ i. divides (l .count) (word-read a h i) (word-read b g i))
+      in (
+        λ d. (over (l .count) b a, over-mul (l .count) a b (sym e ∙ d)),
+        λ f. e ∙ ap (divides (l .count) a) (sym (f .1)) ∙ divides-mul (l .count) a (f .0),
+      )
+
+-- Monomials of some kind and order, coded as words: what a proof about words needs to know of them.
+pub record Coding {K : Monomials} (O : Order K) : Type 0 where
+  pub word : K .Mon → ℕ
+  pub exponents : ℕ → K .Mon
+  pub fitting : K .Mon → Bool
+  pub valid : ℕ → Bool
+  pub dividing : ℕ → ℕ → Bool
+  pub word-one : word (K .one) ≡ 0
+  pub word-mul : (a b : K .Mon) → word (K .mul a b) ≡ word a + word b
+  pub word-less : (a b : K .Mon) → fitting a ≡ true → fitting b ≡ true → O .less a b ↔ (word a < word b)
+  pub word-valid : (a : K .Mon) → fitting a ≡ true → valid (word a) ≡ true
+  pub word-exponents : (a : K .Mon) → fitting a ≡ true → exponents (word a) ≡ a
+  pub exponents-fitting : (m : ℕ) → valid m ≡ true → fitting (exponents m) ≡ true
+  pub exponents-word : (m : ℕ) → valid m ≡ true → word (exponents m) ≡ m
+  pub one-fitting : fitting (K .one) ≡ true
+  pub factor-fitting : (a b : K .Mon) → fitting (K .mul a b) ≡ true → fitting a ≡ true
+  pub sum-valid : (m n : ℕ) → valid m ≡ true → valid n ≡ true → valid (m + n) ≡ fitting (K .mul (exponents m) (exponents n))
+  pub dividing-word : (a b : K .Mon) → fitting a ≡ true → fitting b ≡ true → (dividing (word a) (word b) ≡ true) ↔ ((q : K .Mon) × (K .mul a q ≡ b))
+  pub dividing-valid : (m n : ℕ) → dividing m n ≡ true → (valid m ≡ true) × (valid n ≡ true)
+
+-- the layout's fields code the lexicographic order
+abbrev pub coding : (l : Layout) → Coding (Lex (l .count))
+coding l =
+    record {
+      word = write l;
+      exponents = read l;
+      fitting = fit l;
+      valid = isMonomial l;
+      dividing = dividesOf l;
+      word-one = word-one (l .width) (l .count);
+      word-mul = word-mul (l .width) (l .count);
+      word-less = λ a b h g. word-less (l .width) (l .count) a b (fits-held (l .width) (l .count) a h) (fits-held (l .width) (l .count) b g);
+      word-valid = word-monomial l;
+      word-exponents = word-read l;
+      exponents-fitting = monomial-fits l;
+      exponents-word = monomial-word l;
+      one-fitting = fits-one (l .width) (l .count);
+      factor-fitting = factor-fits (l .width) (l .count);
+      sum-valid = sum-monomial l;
+      dividing-word = word-divides l;
+      dividing-valid = divides-monomials l;
+    }
