@@ -111,6 +111,9 @@ module _ (l : Layout) where
     pub product-sum : m < room → n < room → productOf l m n ≡ pick (isMonomial l m && isMonomial l n && isMonomial l (m + n)) (done (m + n)) (refused 9)
     product-sum h g = λ i. pick (product-test h g i) (done (sum-word h g i)) (refused 9)
 
+    pub product-monomials : isMonomial l m ≡ true → isMonomial l n ≡ true → productOf l m n ≡ pick (isMonomial l (m + n)) (done (m + n)) (refused 9)
+    product-monomials h g = λ i. pick (sym (sum-monomial h g) i) (done (sum-word (monomial-below m h) (monomial-below n g) i)) (refused 9)
+
   module _ (m n : ℕ) where
     pub divides-monomials : dividesOf l m n ≡ true → (isMonomial l m ≡ true) × (isMonomial l n ≡ true)
     unfolding dividesOf

@@ -2,18 +2,20 @@
 --
 --   mask-monomial    no bit of the mask of guard bits is set just where the word is a monomial
 --   either-monomial  one test for two words
+--   both-monomials   the same, read as two facts
+--   divides-none     where that test fails, the one word does not divide the other
 --   lent-word        setting a monomial's guard bits adds the mask
 --   lent-covers      with its guard bits set a monomial is at least every monomial
 --   mask-divides     after the difference all guard bits are still set just where the one divides the other
 use Prim.Native.Nat.{ℕ, zero, suc, _+_, _-_, _*_, _^_, _≤_, _<_}
 use mathlib.Core.Path.{_≡_, refl, sym, _∙_, ap}
-use mathlib.Core.Bool.{Bool, true, _&&_}
+use mathlib.Core.Bool.{true, false, _&&_}
 use native.Mathlib.Omega.{arith}
 use lib.Bits.{bitAnd, bitOr, or-disjoint}
 use lib.Dec.{eqb, ltb}
 use borrow.Author.Tests.{eqb-true}
 use Rattle.monomial.specs.Layout.{Layout, exponentsOf, fits, isMonomial, divides, dividesOf}
-use Rattle.monomial.proofs.Fields.{both-swap, or-below, either-test, guards, guards-test, guards-cover, borrow-test}
+use Rattle.monomial.proofs.Fields.{both-true, both-swap, or-below, either-test, guards, guards-test, guards-cover, borrow-test}
 use Rattle.monomial.proofs.Laws.{read, monomial-below, monomial-fits, monomial-test, monomial-word, divides-exponents}
 
 module _ (v k : ℕ) where
@@ -29,6 +31,13 @@ module _ (v k : ℕ) where
       let j = suc v * k in
       (λ i. or-below j m n i && either-test v k m n i)
       ∙ both-swap (ltb m (2 ^ j)) (ltb n (2 ^ j)) (fits (suc v) k (exponentsOf (suc v) k m)) (fits (suc v) k (exponentsOf (suc v) k n))
+
+  pub both-monomials : (m n : ℕ) → isMonomial fields (bitOr m n) ≡ true → (isMonomial fields m ≡ true) × (isMonomial fields n ≡ true)
+  both-monomials m n h = both-true (isMonomial fields m) (isMonomial fields n) (sym (either-monomial m n) ∙ h)
+
+  pub divides-none : (m n : ℕ) → isMonomial fields (bitOr m n) ≡ false → dividesOf fields m n ≡ false
+  unfolding dividesOf
+  divides-none m n h = ap (λ t. t && divides k (read fields m) (read fields n)) (sym (either-monomial m n) ∙ h)
 
   pub lent-word : (n : ℕ) → isMonomial fields n ≡ true → bitOr n (guards v k) ≡ n + guards v k
   lent-word n h =

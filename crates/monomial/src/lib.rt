@@ -43,7 +43,7 @@ pub fn exponent(word: u64, letter: u64) -> u64
     if letter > 3 {
         return 0;
     }
-    (word >> (48 - 16 * letter)) & 0xffff
+    (word >> (16 * (3 - letter))) & 0xffff
 }
 
 // The word of four exponents. No bit above the fifteenth of any of them is set just where none is over the largest.

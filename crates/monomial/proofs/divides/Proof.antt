@@ -1,25 +1,31 @@
+-- `divides` meets its contract: both words are tested at once, then what is left of the guard bits after the difference.
+use mathlib.Core.Path.{_≡_, _∙_, sym, ap}
+use mathlib.Core.Bool.{true, false, _&&_}
 use borrow.Author.Needs.{needs}
+use borrow.Author.Tests.{not-true, not-false}
+use Rattle.monomial.specs.Layout.{base, isMonomial}
+use Rattle.monomial.proofs.Masks.{either-monomial, both-monomials, lent-covers, mask-divides, divides-none}
 use Rattle.monomial.proofs.divides.Statement.{statement}
 use Rattle.monomial.proofs.divides.Tie as tie
-use Rattle.monomial.proofs.divides.Reads as reads
-use Rattle.monomial.proofs.divides.Lts as lts
-use Rattle.monomial.proofs.is_monomial.Reads as is-monomial-reads
 
--- src/lib.rt:107:9
 is-monomial-requires : tie.Need-is-monomial-requires
 is-monomial-requires c κs = search needs
 
--- src/lib.rt:108:9
 returns : tie.Need-returns
-returns c = ?
+returns c =
+    sym (divides-none 15 4 (c .before .before .args .m) (c .before .before .args .n)
+    (sym (c .before .is-monomial .ensures) ∙ not-true (c .before .is-monomial .result) (c .if1 .taken)))
 
--- src/lib.rt:110:6
+monomials : (c : tie.Else1) → (isMonomial base (c .before .before .args .m) ≡ true) × (isMonomial base (c .before .before .args .n) ≡ true)
+monomials c =
+    both-monomials 15 4 (c .before .before .args .m) (c .before .before .args .n)
+    (sym (c .before .is-monomial .ensures) ∙ not-false (c .before .is-monomial .result) (c .if1 .left))
+
 sub-result : tie.Need-sub-result
-sub-result c = ?
+sub-result c = lent-covers 15 4 (c .before .before .args .m) (c .before .before .args .n) (monomials c .0) (monomials c .1)
 
--- src/lib.rt:104:1
 returns-2 : tie.Need-returns-2
-returns-2 c = ?
+returns-2 c = mask-divides 15 4 (c .before .before .args .m) (c .before .before .args .n) (monomials c .0) (monomials c .1)
 
 pub divides-spec : {M : Type 1} → statement M
 divides-spec = tie.close (tie.spec is-monomial-requires returns sub-result returns-2)

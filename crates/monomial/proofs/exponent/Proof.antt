@@ -1,28 +1,27 @@
+-- `exponent` meets its contract: a letter's field, counted from the bottom of the word.
+use mathlib.Core.Path.{_∙_, sym}
+use Prim.Native.Nat.{_/_, _^_, _*_, _-_}
+use native.Mathlib.Omega.{arith}
 use borrow.Author.Needs.{needs}
+use lib.Bits.{and-mask}
+use Rattle.monomial.specs.Layout.{exponentsOf}
+use Rattle.monomial.proofs.Fields.{exponent-field, exponent-none}
 use Rattle.monomial.proofs.exponent.Statement.{statement}
 use Rattle.monomial.proofs.exponent.Tie as tie
-use Rattle.monomial.proofs.exponent.Reads as reads
-use Rattle.monomial.proofs.exponent.Lts as lts
 
--- src/lib.rt:44:9
 returns : tie.Need-returns
-returns c = ?
+returns c = sym (exponent-none 16 4 (c .before .args .letter) (exponentsOf 16 4 (c .before .args .word)) (omega arith))
 
--- src/lib.rt:46:20
 mul-result : tie.Need-mul-result
 mul-result c = search needs
 
--- src/lib.rt:46:15
-sub-result : tie.Need-sub-result
-sub-result c = search needs
-
--- src/lib.rt:46:6
 shr-result : tie.Need-shr-result
 shr-result c = search needs
 
--- src/lib.rt:40:1
 returns-2 : tie.Need-returns-2
-returns-2 c = ?
+returns-2 c =
+    and-mask (c .before .args .word / 2 ^ (16 * (3 - c .before .args .letter))) 16
+    ∙ sym (exponent-field 16 4 (c .before .args .word) (c .before .args .letter) (c .before .fits .word .fits) (omega arith))
 
 pub exponent-spec : {M : Type 1} → statement M
-exponent-spec = tie.close (tie.spec returns mul-result sub-result shr-result returns-2)
+exponent-spec = tie.close (tie.spec returns mul-result shr-result returns-2)

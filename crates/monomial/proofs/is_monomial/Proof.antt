@@ -1,11 +1,10 @@
+-- `is_monomial` meets its contract: the mask of guard bits, over four fields of sixteen bits.
+use Rattle.monomial.proofs.Masks.{mask-monomial}
 use Rattle.monomial.proofs.is_monomial.Statement.{statement}
 use Rattle.monomial.proofs.is_monomial.Tie as tie
-use Rattle.monomial.proofs.is_monomial.Reads as reads
-use Rattle.monomial.proofs.is_monomial.Lts as lts
 
--- src/lib.rt:33:1
 returns : tie.Need-returns
-returns c = ?
+returns c = mask-monomial 15 4 (c .args .word) (c .fits .word .fits)
 
 pub is-monomial-spec : {M : Type 1} → statement M
 is-monomial-spec = tie.close (tie.spec returns)

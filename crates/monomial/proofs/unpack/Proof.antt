@@ -1,38 +1,40 @@
+-- `unpack` meets its contract: the four calls of `exponent` give the four fields.
+use mathlib.Core.Path.{_≡_, _∙_, sym}
+use mathlib.Core.Bool.{true, false}
+use mathlib.Core.List.{[], _∷_}
 use borrow.Author.Needs.{needs}
+use borrow.Author.Tests.{not-true, not-false}
+use Rattle.algebra.specs.Residues.{pick}
+use Rattle.monomial.specs.Layout.{base, isMonomial, exponentsOf}
+use Rattle.monomial.specs.Answers.{listed}
 use Rattle.monomial.proofs.unpack.Statement.{statement}
 use Rattle.monomial.proofs.unpack.Tie as tie
-use Rattle.monomial.proofs.unpack.Reads as reads
-use Rattle.monomial.proofs.unpack.Lts as lts
-use Rattle.monomial.proofs.exponent.Reads as exponent-reads
-use Rattle.monomial.proofs.is_monomial.Reads as is-monomial-reads
 
--- src/lib.rt:69:9
 is-monomial-requires : tie.Need-is-monomial-requires
 is-monomial-requires c κs = search needs
 
--- src/lib.rt:70:9
 returns : tie.Need-returns
-returns c = ?
+returns c =
+    let e = sym (c .before .is-monomial .ensures) ∙ not-true (c .before .is-monomial .result) (c .if1 .taken) in
+    rw e
 
--- src/lib.rt:78:13
 exponent-requires : tie.Need-exponent-requires
 exponent-requires c κs = search needs
 
--- src/lib.rt:79:13
 exponent-requires-2 : tie.Need-exponent-requires-2
 exponent-requires-2 c κs = search needs
 
--- src/lib.rt:80:13
 exponent-requires-3 : tie.Need-exponent-requires-3
 exponent-requires-3 c κs = search needs
 
--- src/lib.rt:81:13
 exponent-requires-4 : tie.Need-exponent-requires-4
 exponent-requires-4 c κs = search needs
 
--- src/lib.rt:66:1
 returns-2 : tie.Need-returns-2
-returns-2 c = ?
+returns-2 c =
+    let s = c .before .before .before .before in
+    let e = sym (s .before .is-monomial .ensures) ∙ not-false (s .before .is-monomial .result) (s .if1 .left) in
+    rw (e, c .before .before .before .exponent .ensures, c .before .before .exponent2 .ensures, c .before .exponent3 .ensures, c .exponent4 .ensures)
 
 pub unpack-spec : {M : Type 1} → statement M
 unpack-spec =
