@@ -2,3 +2,4 @@
 pub mod Fields
 pub mod Laws
 pub mod Masks
+pub mod Determined
