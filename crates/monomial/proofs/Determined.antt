@@ -2,7 +2,6 @@
 --
 --   CALL-asks-nothing   the call's contract requires nothing
 --   CALL-determined     two answers that the call's contract allows are the same
-use Prim.Native.Nat.{ℕ}
 use mathlib.Core.Path.{_≡_, refl, sym, _∙_, ap}
 use native.Mathlib.Omega.{arith}
 use Rattle.monomial.specs.Answers.{productValue, quotientValue}
@@ -20,14 +19,14 @@ use Rattle.monomial.proofs.divide.Reads as divide
 
 product-of-value : (r r′ : Product) → productValue r ≡ productValue r′ → r ≡ r′
 product-of-value (Product.Word x) (Product.Word y) e = ap (λ v. Product.Word (v .value)) e
-product-of-value (Product.Word x) Product.TooBig e = absurd (let z : _≡_ {A = ℕ} 0 9 = ap (λ v. v .number) e in omega arith)
-product-of-value Product.TooBig (Product.Word y) e = absurd (let z : _≡_ {A = ℕ} 9 0 = ap (λ v. v .number) e in omega arith)
+product-of-value (Product.Word x) Product.TooBig e = absurd (omega (arith, ap (λ v. v .number) e))
+product-of-value Product.TooBig (Product.Word y) e = absurd (omega (arith, ap (λ v. v .number) e))
 product-of-value Product.TooBig Product.TooBig e = refl
 
 quotient-of-value : (r r′ : Quotient) → quotientValue r ≡ quotientValue r′ → r ≡ r′
 quotient-of-value (Quotient.Word x) (Quotient.Word y) e = ap (λ v. Quotient.Word (v .value)) e
-quotient-of-value (Quotient.Word x) Quotient.NoQuotient e = absurd (let z : _≡_ {A = ℕ} 0 12 = ap (λ v. v .number) e in omega arith)
-quotient-of-value Quotient.NoQuotient (Quotient.Word y) e = absurd (let z : _≡_ {A = ℕ} 12 0 = ap (λ v. v .number) e in omega arith)
+quotient-of-value (Quotient.Word x) Quotient.NoQuotient e = absurd (omega (arith, ap (λ v. v .number) e))
+quotient-of-value Quotient.NoQuotient (Quotient.Word y) e = absurd (omega (arith, ap (λ v. v .number) e))
 quotient-of-value Quotient.NoQuotient Quotient.NoQuotient e = refl
 
 pub is-monomial-asks-nothing : (κs : _) (a : _) → is-monomial.Pre κs a

@@ -1,19 +1,36 @@
 -- Laws of the fields of a word, for any width w and any number k of fields, by induction on the fields.
+--
+--   both-true, both, same-test, both-swap   of tests joined by `&&`; two tests that pass together are equal
+--   Held w k m              a field holds each exponent of m, the guard bit perhaps used
+--   fits-held, product-held, exponents-held   what fits is held, the product of two that fit is, and so are a word's exponents
+--   fits-one, over-fits, factor-fits   1 fits; a quotient of what fits, and a factor of it, fit
+--   word-bound              the word of what is held has no bit outside the fields
+--   exponents-word, word-exponents   words and exponents give each other back
+--   word-one, word-mul      the word of 1 is 0, and the word of a product is the sum of the words
+--   word-less               word order is the lexicographic order of the exponents
+--   exponent-field, exponent-none   one exponent by its field's place; 0 where there is no such letter
+--   divides-mul, over-mul, divides-quotient   a divides b just where some q times a is b, and then q is `over b a`
+--   joined, joined-word     exponents shifted to their places and joined are the word
+--   or-below, merged, merged-test   one test for several exponents: all bits that are set in any of them
+--   either-test             one test for the fields of two words
+--   guards, guards-test     the mask of the guard bits: none is set just where all exponents fit
+--   guards-cover            a word that fits is at most the mask
+--   borrow-test             a word with its guard bits set, less another: all guard bits stay just where the other divides it
 use Prim.Native.Nat.{ℕ, zero, suc, _+_, _-_, _*_, _/_, _%_, _^_, _≤_, _<_}
-use mathlib.Core.Path.{_≡_, refl, sym, _∙_, ap, subst}
+use mathlib.Core.Path.{_≡_, refl, sym, _∙_, ap}
 use mathlib.Core.Bool.{Bool, true, false, _&&_, false≢true, and-true}
 use mathlib.Core.Logic.{_↔_, Iff·trans, inl, inr}
 use native.Mathlib.Nat.{pow-suc, mul-suc, mul-zero, mod-lt, mod-eq-of-lt, mul-le-mul-right, div-lt-iff-lt-mul}
 use native.Mathlib.Decide.{decLt, decLe}
 use native.Mathlib.Omega.{arith}
 use lib.Arith.{digits-lt, digits-div, digits-mod}
-use lib.Pow.{pow-pos, pow-add, high, low, split, shr-lt, shr-mod, field, mod-mod-pow, shl-exact}
+use lib.Pow.{pow-pos, pow-add, high, low, split, field, mod-mod-pow, shl-exact}
 use lib.Bits.{bitAnd, bitOr, and-block, and-shifted, and-comm, and-zero-r, and-le-l, and-le-r, and-lt, or-add-and, or-lt, or-shr, or-mod, or-shifted}
 use lib.Dec.{leb, ltb, eqb}
 use borrow.Author.Tests.{leb-true, ltb-true, eqb-true, le-leb, lt-leb, lt-ltb, eq-eqb, ne-eqb}
 use Rattle.algebra.specs.Monomials.{Letters, exponent}
 use Rattle.algebra.specs.Orders.{below, level, above, Then, Lex, compareNumbers}
-use Rattle.monomial.specs.Layout.{largest, exponentsOf, wordOf, fits, divides, over}
+use Rattle.monomial.specs.Layout.{largestExponent, exponentsOf, wordOf, fits, divides, over}
 
 -- Tests
 
@@ -76,20 +93,20 @@ borrowed c x y p r s g h l =
 
 -- Widths and rooms
 
-largest-suc : (v : ℕ) → largest (suc v) + 1 ≡ 2 ^ v
+largest-suc : (v : ℕ) → largestExponent (suc v) + 1 ≡ 2 ^ v
 largest-suc v =
     let e : suc v - 1 ≡ v = omega arith in
     omega (arith, ap (λ n. 2 ^ n) e, pow-pos v)
 
-pub largest-twice : (w : ℕ) → largest w + largest w < 2 ^ w
+pub largest-twice : (w : ℕ) → largestExponent w + largestExponent w < 2 ^ w
 largest-twice zero = omega arith
 largest-twice (suc v) = omega (arith, pow-suc 2 v, largest-suc v)
 
-largest-ltb : (v e : ℕ) → leb e (largest (suc v)) ≡ ltb e (2 ^ v)
+largest-ltb : (v e : ℕ) → leb e (largestExponent (suc v)) ≡ ltb e (2 ^ v)
 largest-ltb v e =
-    same-test (leb e (largest (suc v))) (ltb e (2 ^ v))
-    (λ t. lt-ltb e (2 ^ v) (omega (arith, leb-true e (largest (suc v)) t, largest-suc v)))
-    (λ t. le-leb e (largest (suc v)) (omega (arith, ltb-true e (2 ^ v) t, largest-suc v)))
+    same-test (leb e (largestExponent (suc v))) (ltb e (2 ^ v))
+    (λ t. lt-ltb e (2 ^ v) (omega (arith, leb-true e (largestExponent (suc v)) t, largest-suc v)))
+    (λ t. le-leb e (largestExponent (suc v)) (omega (arith, ltb-true e (2 ^ v) t, largest-suc v)))
 
 room-suc : (w k : ℕ) → 2 ^ (w * suc k) ≡ 2 ^ w * 2 ^ (w * k)
 room-suc w k = ap (λ n. 2 ^ n) (mul-suc w k) ∙ pow-add 2 (w * k) w ∙ omega arith
@@ -98,14 +115,14 @@ room-zero : (w : ℕ) → 2 ^ (w * 0) ≡ 1
 room-zero w = ap (λ n. 2 ^ n) (mul-zero w)
 
 module _ (w : ℕ) where
-  fits-first : (k : ℕ) (m : Letters (suc k) .Mon) → fits w (suc k) m ≡ true → m .0 ≤ largest w
-  fits-first k m h = leb-true (m .0) (largest w) (both-true (leb (m .0) (largest w)) (fits w k (m .1)) h .0)
+  fits-first : (k : ℕ) (m : Letters (suc k) .Mon) → fits w (suc k) m ≡ true → m .0 ≤ largestExponent w
+  fits-first k m h = leb-true (m .0) (largestExponent w) (both-true (leb (m .0) (largestExponent w)) (fits w k (m .1)) h .0)
 
   fits-rest : (k : ℕ) (m : Letters (suc k) .Mon) → fits w (suc k) m ≡ true → fits w k (m .1) ≡ true
-  fits-rest k m h = both-true (leb (m .0) (largest w)) (fits w k (m .1)) h .1
+  fits-rest k m h = both-true (leb (m .0) (largestExponent w)) (fits w k (m .1)) h .1
 
-  fits-more : (k : ℕ) (m : Letters (suc k) .Mon) → m .0 ≤ largest w → fits w k (m .1) ≡ true → fits w (suc k) m ≡ true
-  fits-more k m h t = both (le-leb (m .0) (largest w) h) t
+  fits-more : (k : ℕ) (m : Letters (suc k) .Mon) → m .0 ≤ largestExponent w → fits w k (m .1) ≡ true → fits w (suc k) m ≡ true
+  fits-more k m h t = both (le-leb (m .0) (largestExponent w) h) t
 
   -- each exponent is below 2 ^ w: a field holds it, its guard bit perhaps set
   abbrev pub Held : (k : ℕ) → Letters k .Mon → Type 0
@@ -215,10 +232,11 @@ over-mul (suc k) a b h =
     let f = over-mul k (a .1) (b .1) (divides-rest k a b h) in
     λ i. (e i, f i)
 
-pub over-unique : (k : ℕ) (a b q : Letters k .Mon) → Letters k .mul a q ≡ b → q ≡ over k b a
-over-unique k a b q e =
-    let d : divides k a b ≡ true = subst (λ x. divides k a x ≡ true) e (divides-mul k a q) in
-    Letters k .mul-cancel a q (over k b a) (e ∙ sym (over-mul k a b d))
+pub divides-quotient : (k : ℕ) (a b : Letters k .Mon) → (divides k a b ≡ true) ↔ ((q : Letters k .Mon) × (Letters k .mul a q ≡ b))
+divides-quotient k a b = (
+  λ d. (over k b a, over-mul k a b d),
+  λ f. ap (divides k a) (sym (f .1)) ∙ divides-mul k a (f .0),
+)
 
 -- Shifts
 
@@ -250,7 +268,7 @@ or-below j a b =
     lt-ltb (bitOr a b) (2 ^ j) (or-lt j a b (ltb-true a (2 ^ j) (s .0)) (ltb-true b (2 ^ j) (s .1))))
 
 module _ (v : ℕ) where
-  or-largest : (a b : ℕ) → leb (bitOr a b) (largest (suc v)) ≡ (leb a (largest (suc v)) && leb b (largest (suc v)))
+  or-largest : (a b : ℕ) → leb (bitOr a b) (largestExponent (suc v)) ≡ (leb a (largestExponent (suc v)) && leb b (largestExponent (suc v)))
   or-largest a b = largest-ltb v (bitOr a b) ∙ or-below v a b ∙ (λ i. sym (largest-ltb v a) i && sym (largest-ltb v b) i)
 
   -- the bits that are set in some exponent
@@ -259,19 +277,19 @@ module _ (v : ℕ) where
   merged (suc zero) m = m .0
   merged (suc (suc k)) m = bitOr (m .0) (merged (suc k) (m .1))
 
-  pub merged-test : (k : ℕ) (m : Letters k .Mon) → leb (merged k m) (largest (suc v)) ≡ fits (suc v) k m
-  merged-test zero m = le-leb 0 (largest (suc v)) (omega arith)
-  merged-test (suc zero) m = sym (and-true (leb (m .0) (largest (suc v))))
-  merged-test (suc (suc k)) m = or-largest (m .0) (merged (suc k) (m .1)) ∙ (λ i. leb (m .0) (largest (suc v)) && merged-test (suc k) (m .1) i)
+  pub merged-test : (k : ℕ) (m : Letters k .Mon) → leb (merged k m) (largestExponent (suc v)) ≡ fits (suc v) k m
+  merged-test zero m = le-leb 0 (largestExponent (suc v)) (omega arith)
+  merged-test (suc zero) m = sym (and-true (leb (m .0) (largestExponent (suc v))))
+  merged-test (suc (suc k)) m = or-largest (m .0) (merged (suc k) (m .1)) ∙ (λ i. leb (m .0) (largestExponent (suc v)) && merged-test (suc k) (m .1) i)
 
   pub either-test : (k m n : ℕ) → fits (suc v) k (exponentsOf (suc v) k (bitOr m n)) ≡ (fits (suc v) k (exponentsOf (suc v) k m) && fits (suc v) k (exponentsOf (suc v) k n))
   either-test zero m n = refl
   either-test (suc k) m n =
       let j = suc v * k in
-      let top = leb (m / 2 ^ j) (largest (suc v)) in
-      (λ i. leb (or-shr m n j i) (largest (suc v)) && fits (suc v) k (exponentsOf (suc v) k (or-mod m n j i)))
+      let top = leb (m / 2 ^ j) (largestExponent (suc v)) in
+      (λ i. leb (or-shr m n j i) (largestExponent (suc v)) && fits (suc v) k (exponentsOf (suc v) k (or-mod m n j i)))
       ∙ (λ i. or-largest (m / 2 ^ j) (n / 2 ^ j) i && either-test k (m % 2 ^ j) (n % 2 ^ j) i)
-      ∙ both-swap top (leb (n / 2 ^ j) (largest (suc v))) (fits (suc v) k (exponentsOf (suc v) k (m % 2 ^ j))) (fits (suc v) k (exponentsOf (suc v) k (n % 2 ^ j)))
+      ∙ both-swap top (leb (n / 2 ^ j) (largestExponent (suc v))) (fits (suc v) k (exponentsOf (suc v) k (m % 2 ^ j))) (fits (suc v) k (exponentsOf (suc v) k (n % 2 ^ j)))
 
   -- the guard bits of k fields
   abbrev pub guards : ℕ → ℕ
@@ -294,13 +312,13 @@ module _ (v : ℕ) where
       let o : bitAnd 1 1 ≡ 1 = refl in
       (λ i. bitAnd (p i) (q i)) ∙ and-block v 1 1 (e - 2 ^ v) 0 (omega (arith, pow-suc 2 v)) (pow-pos v) ∙ omega (arith, and-zero-r (e - 2 ^ v))
 
-  guard-test : (e : ℕ) → e < 2 ^ suc v → eqb (bitAnd e (2 ^ v)) 0 ≡ leb e (largest (suc v))
+  guard-test : (e : ℕ) → e < 2 ^ suc v → eqb (bitAnd e (2 ^ v)) 0 ≡ leb e (largestExponent (suc v))
   guard-test e h =
       elim (decLt e (2 ^ v)) [
-        | yes l ↦ eq-eqb (bitAnd e (2 ^ v)) 0 (guard-clear e l) ∙ sym (le-leb e (largest (suc v)) (omega (arith, largest-suc v)))
+        | yes l ↦ eq-eqb (bitAnd e (2 ^ v)) 0 (guard-clear e l) ∙ sym (le-leb e (largestExponent (suc v)) (omega (arith, largest-suc v)))
         | no n ↦
             let s = guard-set e (omega arith) h in
-            ne-eqb (bitAnd e (2 ^ v)) 0 (λ z. omega (arith, pow-pos v)) ∙ sym (lt-leb e (largest (suc v)) (omega (arith, largest-suc v, pow-pos v)))
+            ne-eqb (bitAnd e (2 ^ v)) 0 (λ z. omega (arith, pow-pos v)) ∙ sym (lt-leb e (largestExponent (suc v)) (omega (arith, largest-suc v, pow-pos v)))
       ]
 
   pub guards-test : (k word : ℕ) → word < 2 ^ (suc v * k) → eqb (bitAnd word (guards k)) 0 ≡ fits (suc v) k (exponentsOf (suc v) k word)
@@ -329,7 +347,7 @@ module _ (v : ℕ) where
       rw (room-suc (suc v) k) (omega (arith, digits-lt l (guards-room k (m .1) (fits-rest (suc v) k m h))))
 
   -- a field of the dividend, its guard bit set, less one of the divisor: the guard bit stays where nothing was borrowed
-  field-borrow : (a b : ℕ) → a ≤ largest (suc v) → b ≤ largest (suc v) → eqb (bitAnd (b + 2 ^ v - a) (2 ^ v)) (2 ^ v) ≡ leb a b
+  field-borrow : (a b : ℕ) → a ≤ largestExponent (suc v) → b ≤ largestExponent (suc v) → eqb (bitAnd (b + 2 ^ v - a) (2 ^ v)) (2 ^ v) ≡ leb a b
   field-borrow a b h l =
       elim (decLe a b) [
         | yes r ↦

@@ -1,21 +1,23 @@
 -- Laws of monomial words, for any layout: order is `<` on words, the product is the sum, and the quotient the difference.
 --
---   monomial-below, monomial-fits, monomial-word   a monomial word has only the fields' bits, its exponents fit, and they give it back
---   word-monomial          the word of exponents is a monomial word just where they fit
+--   read, write, fit, times, room   a word's exponents, the word of exponents, whether they fit, their product; words are below the room
+--   monomial-below, monomial-fits, monomial-test, monomial-word   a monomial word is below the room and its exponents fit, no more
+--                          is asked of it, and its exponents give it back
+--   word-monomial, word-read   exponents that fit have a monomial word, and it gives them back
 --   one-monomial           0 is the word of 1
 --   less-word              word order is the lexicographic order of the exponents
---   sum-exponents          the fields of the sum of two monomial words are the sums of the fields
---   sum-monomial           the sum of two monomial words is one just where the product of their exponents fits
---   product-sum            the product's word, where no exponent bursts, is the sum
---   divides-monomials, divides-le   what divides and what is divided are monomial words, the first at most the second
+--   sum-below, sum-exponents, sum-monomial   the fields of the sum of two monomial words are the sums of the fields; it is a monomial
+--                          word just where the product of the exponents fits
+--   product-sum, product-monomials   the product's word, where no exponent bursts, is the sum
+--   divides-monomials, divides-exponents, divides-le   of the words of which the one divides the other
 --   divides-iff            m divides n just where m + q ≡ n for some monomial word q
 --   quotient-difference    the quotient's word is the difference
---   word-divides           of words of exponents that fit, the first divides the second just where its exponents do
---   Coding, coding         the same facts as one record, for any order of monomials; the layout's own coding
-use Prim.Native.Nat.{ℕ, zero, suc, _+_, _-_, _*_, _^_, _≤_, _<_}
-use mathlib.Core.Path.{_≡_, refl, sym, _∙_, ap, subst}
+--   word-divides           of words of exponents that fit, the one divides the other just where the exponents have a quotient
+--   Coding, coding         the same as one record, for any kind and order of monomials; the layout's own
+use Prim.Native.Nat.{ℕ, _+_, _-_, _*_, _^_, _≤_, _<_}
+use mathlib.Core.Path.{_≡_, refl, sym, _∙_, ap}
 use mathlib.Core.Bool.{Bool, true, false, _&&_}
-use mathlib.Core.Logic.{_↔_, Iff·trans}
+use mathlib.Core.Logic.{_↔_}
 use native.Mathlib.Omega.{arith}
 use lib.Dec.{ltb}
 use borrow.Author.Tests.{ltb-true, lt-ltb}
@@ -24,7 +26,7 @@ use Rattle.algebra.specs.Orders.{Order, Lex}
 use Rattle.algebra.specs.Residues.{pick}
 use Rattle.monomial.specs.Layout.{Layout, exponentsOf, wordOf, fits, isMonomial, divides, over, dividesOf}
 use Rattle.monomial.specs.Answers.{done, refused, productOf, quotientOf}
-use Rattle.monomial.proofs.Fields.{both-true, both, same-test, Held, fits-held, fits-one, product-held, exponents-held, word-bound, exponents-word, word-exponents, word-one, word-mul, word-less, factor-fits, divides-mul, over-mul, over-fits}
+use Rattle.monomial.proofs.Fields.{both-true, both, same-test, Held, fits-held, fits-one, product-held, word-bound, exponents-word, word-exponents, word-one, word-mul, word-less, factor-fits, divides-mul, over-mul, over-fits, divides-quotient}
 
 module _ (l : Layout) where
   abbrev pub read : ℕ → Letters (l .count) .Mon
@@ -155,10 +157,8 @@ module _ (l : Layout) where
   word-divides a b h g =
       let e : dividesOf l (write a) (write b) ≡ divides (l .count) a b =
       divides-exponents (write a) (write b) (word-monomial a h) (word-monomial b g) ∙ (λ i. divides (l .count) (word-read a h i) (word-read b g i))
-      in (
-        λ d. (over (l .count) b a, over-mul (l .count) a b (sym e ∙ d)),
-        λ f. e ∙ ap (divides (l .count) a) (sym (f .1)) ∙ divides-mul (l .count) a (f .0),
-      )
+      in
+      rw (sym e) at (divides-quotient (l .count) a b)
 
 -- Monomials of some kind and order, coded as words: what a proof about words needs to know of them.
 pub record Coding {K : Monomials} (O : Order K) : Type 0 where

@@ -1,6 +1,8 @@
 -- What each call answers: a number, 0 for done, and a value.
 --
+--   done v, refused r    the number 0 with the value v; the number r with the value 0
 --   packOf l m           packing the exponents of m: 4 where one is over the largest
+--   listed k m           the k exponents of m as a list
 --   unpackOf l word      the exponents of a word: 4, and zeros, where a guard bit is set
 --   productOf l m n      the product of two words: 9 where an exponent of it is over the largest
 --   quotientOf l n m     the quotient of two words: 12 where m does not divide n
@@ -19,14 +21,13 @@ use Rattle.monomial.specs.declared.Quotient.{Quotient}
 abbrev pub done : ℕ → Value
 done v = record { number = 0; value = v }
 
--- the value beside a refusal is 0
 abbrev pub refused : ℕ → Value
 refused r = record { number = r; value = 0 }
 
 abbrev pub packOf : (l : Layout) → Letters (l .count) .Mon → Value
 packOf l m = pick (fits (l .width) (l .count) m) (done (wordOf (l .width) (l .count) m)) (refused 4)
 
--- the exponents, from the first letter's on
+-- from the first letter's on
 abbrev pub listed : (k : ℕ) → Letters k .Mon → List ℕ
 listed zero m = []
 listed (suc k) m = m .0 ∷ listed k (m .1)

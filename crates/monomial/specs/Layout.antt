@@ -2,7 +2,7 @@
 --
 --   Layout                 the number of fields, and the bits of each, the top one a guard bit
 --   base                   four fields of sixteen bits, for x, y, z and t
---   largest w              the largest exponent of a field of w bits: all but its guard bit set
+--   largestExponent w      the largest exponent of a field of w bits: every bit set but the guard bit
 --   exponentsOf w k word   the exponents in the word's k fields of w bits
 --   wordOf w k m           the word with the exponents of m in its k fields of w bits
 --   fits w k m             no exponent of m is over the largest
@@ -24,8 +24,8 @@ abbrev pub base : Layout
 base = record { count = 4; width = 16 }
 
 -- 32,767 for the sixteen bits of the base
-abbrev pub largest : ℕ → ℕ
-largest w = 2 ^ (w - 1) - 1
+abbrev pub largestExponent : ℕ → ℕ
+largestExponent w = 2 ^ (w - 1) - 1
 
 -- the top field, then the fields below it
 abbrev pub exponentsOf : (w k : ℕ) → ℕ → Letters k .Mon
@@ -38,7 +38,7 @@ wordOf w (suc k) m = m .0 * 2 ^ (w * k) + wordOf w k (m .1)
 
 abbrev pub fits : (w k : ℕ) → Letters k .Mon → Bool
 fits w zero m = true
-fits w (suc k) m = leb (m .0) (largest w) && fits w k (m .1)
+fits w (suc k) m = leb (m .0) (largestExponent w) && fits w k (m .1)
 
 unfoldable pub isMonomial : Layout → ℕ → Bool
 isMonomial l word = ltb word (2 ^ (l .width * l .count)) && fits (l .width) (l .count) (exponentsOf (l .width) (l .count) word)

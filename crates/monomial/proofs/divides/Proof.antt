@@ -1,10 +1,10 @@
 -- `divides` meets its contract: both words are tested at once, then what is left of the guard bits after the difference.
-use mathlib.Core.Path.{_≡_, _∙_, sym, ap}
-use mathlib.Core.Bool.{true, false, _&&_}
+use mathlib.Core.Path.{_≡_, _∙_, sym}
+use mathlib.Core.Bool.{true}
 use borrow.Author.Needs.{needs}
 use borrow.Author.Tests.{not-true, not-false}
 use Rattle.monomial.specs.Layout.{base, isMonomial}
-use Rattle.monomial.proofs.Masks.{either-monomial, both-monomials, lent-covers, mask-divides, divides-none}
+use Rattle.monomial.proofs.Masks.{both-monomials, lent-covers, mask-divides, divides-none}
 use Rattle.monomial.proofs.divides.Statement.{statement}
 use Rattle.monomial.proofs.divides.Tie as tie
 

@@ -1,12 +1,7 @@
 -- `unpack` meets its contract: the four calls of `exponent` give the four fields.
-use mathlib.Core.Path.{_≡_, _∙_, sym}
-use mathlib.Core.Bool.{true, false}
-use mathlib.Core.List.{[], _∷_}
+use mathlib.Core.Path.{_∙_, sym}
 use borrow.Author.Needs.{needs}
 use borrow.Author.Tests.{not-true, not-false}
-use Rattle.algebra.specs.Residues.{pick}
-use Rattle.monomial.specs.Layout.{base, isMonomial, exponentsOf}
-use Rattle.monomial.specs.Answers.{listed}
 use Rattle.monomial.proofs.unpack.Statement.{statement}
 use Rattle.monomial.proofs.unpack.Tie as tie
 
