@@ -3,12 +3,14 @@
 --   both-true, both, same-test, both-swap   of tests joined by `&&`; two tests that pass together are equal
 --   Held w k m              a field holds each exponent of m, the guard bit perhaps used
 --   fits-held, product-held, exponents-held   what fits is held, the product of two that fit is, and so are a word's exponents
---   fits-one, over-fits, factor-fits   1 fits; a quotient of what fits, and a factor of it, fit
+--   fits-letters            what fits has no letter with an exponent over the largest
+--   fits-one, over-fits, divides-fits, factor-fits   1 fits; a quotient of what fits, and what divides it, fit
 --   word-bound              the word of what is held has no bit outside the fields
 --   exponents-word, word-exponents   words and exponents give each other back
 --   word-one, word-mul      the word of 1 is 0, and the word of a product is the sum of the words
 --   word-less               word order is the lexicographic order of the exponents
 --   exponent-field, exponent-none   one exponent by its field's place; 0 where there is no such letter
+--   divides-letters         a divides b just where each letter's exponent in a is at most that in b
 --   divides-mul, over-mul, divides-quotient   a divides b just where some q times a is b, and then q is `over b a`
 --   joined, joined-word     exponents shifted to their places and joined are the word
 --   or-below, merged, merged-test   one test for several exponents: all bits that are set in any of them
@@ -185,6 +187,14 @@ module _ (w : ℕ) where
       Iff·trans (then-iff (a .0) (b .0) rest)
       (digits-less (2 ^ (w * k)) (a .0) (wordOf w k (a .1)) (b .0) (wordOf w k (b .1)) (word-bound k (a .1) (h .1)) (word-bound k (b .1) (g .1)))
 
+  pub fits-letters : (k : ℕ) (m : Letters k .Mon) → (fits w k m ≡ true) ↔ ((v : ℕ) → exponent k v m ≤ largestExponent w)
+  fits-letters zero m = (λ h v. omega arith, λ f. refl)
+  fits-letters (suc k) m =
+      let rest = fits-letters k (m .1) in (
+        λ h v. elim v [ zero ↦ fits-first k m h | suc v′ ↦ rest .0 (fits-rest k m h) v′ ],
+        λ f. fits-more k m (f 0) (rest .1 (λ v. f (suc v))),
+      )
+
   -- one exponent: the field's place counted from the bottom
   pub exponent-field : (k word v : ℕ) → word < 2 ^ (w * k) → v < k → exponent k v (exponentsOf w k word) ≡ word / 2 ^ (w * (k - 1 - v)) % 2 ^ w
   exponent-field zero word v h l = absurd (omega arith)
@@ -205,13 +215,6 @@ module _ (w : ℕ) where
   exponent-none zero v m h = refl
   exponent-none (suc k) zero m h = absurd (omega arith)
   exponent-none (suc k) (suc v) m h = exponent-none k v (m .1) (omega arith)
-
-  -- a factor of what fits, fits
-  pub factor-fits : (k : ℕ) (a b : Letters k .Mon) → fits w k (Letters k .mul a b) ≡ true → fits w k a ≡ true
-  factor-fits zero a b h = refl
-  factor-fits (suc k) a b h =
-      let p = Letters (suc k) .mul a b in
-      fits-more k a (omega (arith, fits-first k p h)) (factor-fits k (a .1) (b .1) (fits-rest k p h))
 
 -- Divisibility of exponents
 
@@ -237,6 +240,24 @@ divides-quotient k a b = (
   λ d. (over k b a, over-mul k a b d),
   λ f. ap (divides k a) (sym (f .1)) ∙ divides-mul k a (f .0),
 )
+
+pub divides-letters : (k : ℕ) (a b : Letters k .Mon) → (divides k a b ≡ true) ↔ ((v : ℕ) → exponent k v a ≤ exponent k v b)
+divides-letters zero a b = (λ d v. omega arith, λ f. refl)
+divides-letters (suc k) a b =
+    let rest = divides-letters k (a .1) (b .1) in (
+      λ d v. elim v [ zero ↦ divides-first k a b d | suc v′ ↦ rest .0 (divides-rest k a b d) v′ ],
+      λ f. both (le-leb (a .0) (b .0) (f 0)) (rest .1 (λ v. f (suc v))),
+    )
+
+module _ (w : ℕ) where
+  pub divides-fits : (k : ℕ) (a b : Letters k .Mon) → divides k a b ≡ true → fits w k b ≡ true → fits w k a ≡ true
+  divides-fits zero a b d h = refl
+  divides-fits (suc k) a b d h =
+      fits-more w k a (omega (arith, divides-first k a b d, fits-first w k b h))
+      (divides-fits k (a .1) (b .1) (divides-rest k a b d) (fits-rest w k b h))
+
+  pub factor-fits : (k : ℕ) (a b : Letters k .Mon) → fits w k (Letters k .mul a b) ≡ true → fits w k a ≡ true
+  factor-fits k a b h = divides-fits k a (Letters k .mul a b) (divides-mul k a b) h
 
 -- Shifts
 

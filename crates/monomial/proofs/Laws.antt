@@ -12,6 +12,8 @@
 --   divides-monomials, divides-exponents, divides-le   of the words of which the one divides the other
 --   divides-iff            m divides n just where m + q ≡ n for some monomial word q
 --   quotient-difference    the quotient's word is the difference
+--   sum-divides            the sum of two monomial words divides a third just where the product of the exponents does, also where
+--                          the product does not fit
 --   word-divides           of words of exponents that fit, the one divides the other just where the exponents have a quotient
 --   Coding, coding         the same as one record, for any kind and order of monomials; the layout's own
 use Prim.Native.Nat.{ℕ, _+_, _-_, _*_, _^_, _≤_, _<_}
@@ -26,7 +28,7 @@ use Rattle.algebra.specs.Orders.{Order, Lex}
 use Rattle.algebra.specs.Residues.{pick}
 use Rattle.monomial.specs.Layout.{Layout, exponentsOf, wordOf, fits, isMonomial, divides, over, dividesOf}
 use Rattle.monomial.specs.Answers.{done, refused, productOf, quotientOf}
-use Rattle.monomial.proofs.Fields.{both-true, both, same-test, Held, fits-held, fits-one, product-held, word-bound, exponents-word, word-exponents, word-one, word-mul, word-less, factor-fits, divides-mul, over-mul, over-fits, divides-quotient}
+use Rattle.monomial.proofs.Fields.{both-true, both, same-test, Held, fits-held, fits-one, product-held, word-bound, exponents-word, word-exponents, word-one, word-mul, word-less, divides-fits, factor-fits, divides-mul, over-mul, over-fits, divides-quotient}
 
 module _ (l : Layout) where
   abbrev pub read : ℕ → Letters (l .count) .Mon
@@ -152,6 +154,15 @@ module _ (l : Layout) where
         go : (t : Bool) → dividesOf l m n ≡ t → pick t (done (write (over (l .count) (read n) (read m)))) (refused 12) ≡ pick t (done (n - m)) (refused 12)
         go true d = let e : write (over (l .count) (read n) (read m)) ≡ n - m = omega (arith, quotient-word d) in λ i. done (e i)
         go false d = refl
+
+  pub sum-divides : (m n f : ℕ) → isMonomial l m ≡ true → isMonomial l n ≡ true → isMonomial l f ≡ true → dividesOf l (m + n) f ≡ divides (l .count) (times (read m) (read n)) (read f)
+  sum-divides m n f h g k =
+      let e = ap (λ a. divides (l .count) a (read f)) (sum-exponents m n h g) in
+      same-test (dividesOf l (m + n) f) (divides (l .count) (times (read m) (read n)) (read f))
+      (λ d. sym (divides-exponents (m + n) f (divides-monomials (m + n) f d .0) k ∙ e) ∙ d)
+      (λ d.
+      let s = sum-monomial m n h g ∙ divides-fits (l .width) (l .count) (times (read m) (read n)) (read f) d (monomial-fits f k) in
+      divides-exponents (m + n) f s k ∙ e ∙ d)
 
   pub word-divides : (a b : Letters (l .count) .Mon) → fit a ≡ true → fit b ≡ true → (dividesOf l (write a) (write b) ≡ true) ↔ ((q : Letters (l .count) .Mon) × (times a q ≡ b))
   word-divides a b h g =
