@@ -4,3 +4,5 @@ pub mod Bounds
 pub mod Signs
 pub mod Trial
 pub mod Remainders
+pub mod Determined
+pub mod Laws

@@ -1,5 +1,6 @@
 -- Laws of moduli.
 --
+--   both-true                        a test of two parts passes where both pass
 --   modulus-prime, modulus-within    a modulus is a prime, and at most the limit
 --   modulus-of                       and a prime up to the limit is a modulus
 --   modulus-passed, modulus-refused  a reply r of 0 says that p is a modulus, any other that it is not
@@ -13,17 +14,17 @@ use Rattle.algebra.specs.Residues.{Prime, isPrime, pick}
 use Rattle.algebra.proofs.Primes.{prime-of-test, test-of-prime}
 use Rattle.field.specs.Moduli.{limit, isModulus, modulusOf}
 
-both : (a b : Bool) → (a && b) ≡ true → (a ≡ true) × (b ≡ true)
-both true b e = (refl, e)
-both false b e = absurd (let z : _≡_ {A = ℕ} 0 1 = cc in omega arith)
+pub both-true : (a b : Bool) → (a && b) ≡ true → (a ≡ true) × (b ≡ true)
+both-true true b e = (refl, e)
+both-true false b e = absurd (let z : _≡_ {A = ℕ} 0 1 = cc in omega arith)
 
 pub modulus-prime : {p : ℕ} → isModulus p ≡ true → Prime p
 unfolding isModulus
-modulus-prime {p} e = prime-of-test (both (leb p limit) (isPrime p) e .1)
+modulus-prime {p} e = prime-of-test (both-true (leb p limit) (isPrime p) e .1)
 
 pub modulus-within : {p : ℕ} → isModulus p ≡ true → p ≤ limit
 unfolding isModulus
-modulus-within {p} e = leb-true _ _ (both (leb p limit) (isPrime p) e .0)
+modulus-within {p} e = leb-true _ _ (both-true (leb p limit) (isPrime p) e .0)
 
 pub modulus-of : {p : ℕ} → Prime p → p ≤ limit → isModulus p ≡ true
 unfolding isModulus

@@ -7,7 +7,7 @@
 --   residue-from-zero, residue-below-zero   the residue of z, by its sign
 use Prim.Native.Nat.{ℕ, zero, suc, _+_, _-_, _%_, _<_}
 use mathlib.Core.Path.{_≡_, refl, _∙_, ap}
-use mathlib.Core.Bool.{Bool, true, false}
+use mathlib.Core.Bool.{true, false}
 use native.Mathlib.Omega.{arith}
 use lib.IntN.{ℤ, pos, negsuc, subℕ, natAbs, _-ℤ_}
 use lib.Signed.{mag, leZ}

@@ -12,7 +12,7 @@ use mathlib.Core.Logic.{_⊎_, inl, inr}
 use native.Mathlib.Nat.{le-refl, mul-le-mul, mul-div-cancel', dvd-mul-left, mod-eq-zero-of-dvd, dvd-of-mod-eq-zero, pos-of-dvd-of-pos}
 use native.Mathlib.Decide.{ℕ-discrete, decLt}
 use native.Mathlib.Omega.{arith}
-use Rattle.algebra.specs.Residues.{Prime, isPrime}
+use Rattle.algebra.specs.Residues.{isPrime}
 use Rattle.algebra.proofs.Primes.{prime-of-test, test-of-prime}
 
 pub record Tried (p d : ℕ) : Type 0 where

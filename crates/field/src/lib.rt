@@ -2,7 +2,7 @@
 ghost use mathlib.Core.Path.{_≡_};
 ghost use Prim.Native.Nat.{_+_, _-_, _*_, _%_, _<_, _≤_};
 ghost use Rattle.algebra.specs.Residues.{Prime, isPrime, inverse};
-ghost use Rattle.field.specs.Moduli.{limit, isModulus, modulusOf};
+ghost use Rattle.field.specs.Moduli.{limit, modulusOf};
 ghost use Rattle.field.specs.Answers.{noValue, sumOf, productOf, inverseOf, balancedOf, residueOf};
 
 const LIMIT: u64 = 2147483647;

@@ -1,5 +1,5 @@
 -- The loop's invariant: the two last remainders with their factors. The measure is the lesser remainder.
-use Prim.Native.Nat.{_*_, _/_, _%_}
+use Prim.Native.Nat.{_*_, _/_}
 use native.Mathlib.Nat.{mod-lt, div-le-self}
 use native.Mathlib.Omega.{arith}
 use borrow.Author.Needs.{needs}

@@ -1,6 +1,6 @@
 -- p − a is below p but for a = 0, where it is p.
-use Prim.Native.Nat.{_-_, _%_}
-use mathlib.Core.Path.{_≡_, sym, _∙_, ap}
+use Prim.Native.Nat.{_%_}
+use mathlib.Core.Path.{sym, _∙_, ap}
 use native.Mathlib.Nat.{mod-self, mod-eq-of-lt}
 use native.Mathlib.Omega.{arith}
 use borrow.Author.Needs.{needs}
