@@ -4,8 +4,8 @@ use mathlib.Core.Path.{sym, _∙_, ap}
 use native.Mathlib.Nat.{mod-self, mod-eq-of-lt}
 use native.Mathlib.Omega.{arith}
 use borrow.Author.Needs.{needs}
-use Rattle.field.proofs.neg_mod.Statement.{statement}
-use Rattle.field.proofs.neg_mod.Tie as tie
+use Rattle.field.proofs.sums.neg_mod.Statement.{statement}
+use Rattle.field.proofs.sums.neg_mod.Tie as tie
 
 sub-result : tie.Need-sub-result
 sub-result c = search needs

@@ -2,8 +2,8 @@ use mathlib.Core.Path.{sym, _∙_}
 use borrow.Author.Needs.{needs}
 use borrow.Author.Tests.{le-leb, lt-leb}
 use Rattle.field.specs.Moduli.{isModulus, modulusOf}
-use Rattle.field.proofs.modulus.Statement.{statement}
-use Rattle.field.proofs.modulus.Tie as tie
+use Rattle.field.proofs.primes.modulus.Statement.{statement}
+use Rattle.field.proofs.primes.modulus.Tie as tie
 
 returns : tie.Need-returns
 unfolding modulusOf isModulus

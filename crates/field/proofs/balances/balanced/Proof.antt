@@ -12,8 +12,8 @@ use Rattle.field.specs.Moduli.{limit, isModulus}
 use Rattle.field.specs.Answers.{balancedValue, balancedOf}
 use Rattle.field.proofs.Moduli.{modulus-within, modulus-passed, modulus-refused}
 use Rattle.field.proofs.Signs.{negated}
-use Rattle.field.proofs.balanced.Statement.{statement}
-use Rattle.field.proofs.balanced.Tie as tie
+use Rattle.field.proofs.balances.balanced.Statement.{statement}
+use Rattle.field.proofs.balances.balanced.Tie as tie
 
 is-modulus : (c : tie.Else1) → isModulus (c .before .before .args .p) ≡ true
 is-modulus c = modulus-passed _ (c .before .modulus .ensures) (c .if1 .left)

@@ -2,8 +2,8 @@
 use native.Mathlib.Omega.{arith}
 use borrow.Author.Needs.{needs}
 use Rattle.field.proofs.Bounds.{product-fits}
-use Rattle.field.proofs.mul_mod.Statement.{statement}
-use Rattle.field.proofs.mul_mod.Tie as tie
+use Rattle.field.proofs.products.mul_mod.Statement.{statement}
+use Rattle.field.proofs.products.mul_mod.Tie as tie
 
 mul-result : tie.Need-mul-result
 mul-result c = product-fits (c .args .a) (c .args .b) (omega arith) (omega arith)

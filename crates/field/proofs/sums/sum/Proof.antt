@@ -5,8 +5,8 @@ use borrow.Author.Tests.{lt-ltb, le-ltb}
 use Rattle.field.specs.Moduli.{isModulus}
 use Rattle.field.specs.Answers.{value, sumOf}
 use Rattle.field.proofs.Moduli.{modulus-within, modulus-passed, modulus-refused}
-use Rattle.field.proofs.sum.Statement.{statement}
-use Rattle.field.proofs.sum.Tie as tie
+use Rattle.field.proofs.sums.sum.Statement.{statement}
+use Rattle.field.proofs.sums.sum.Tie as tie
 
 is-modulus : (c : tie.Else1) → isModulus (c .before .before .args .p) ≡ true
 is-modulus c = modulus-passed _ (c .before .modulus .ensures) (c .if1 .left)

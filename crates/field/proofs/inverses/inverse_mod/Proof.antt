@@ -5,8 +5,8 @@ use native.Mathlib.Omega.{arith}
 use borrow.Author.Needs.{needs}
 use Rattle.field.proofs.Bounds.{product-fits}
 use Rattle.field.proofs.Remainders.{Remainders, remainders-start, remainders-step, remainders-inverse}
-use Rattle.field.proofs.inverse_mod.Statement.{statement}
-use Rattle.field.proofs.inverse_mod.Tie as tie
+use Rattle.field.proofs.inverses.inverse_mod.Statement.{statement}
+use Rattle.field.proofs.inverses.inverse_mod.Tie as tie
 
 abbrev Inv-loop : tie.InvT-loop
 Inv-loop p a rest₀ next-rest₀ t₀ next-t₀ rest next-rest t next-t = Remainders p a rest next-rest t next-t

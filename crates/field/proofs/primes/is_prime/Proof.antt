@@ -5,8 +5,8 @@ use native.Mathlib.Omega.{arith}
 use borrow.Author.Needs.{needs}
 use Rattle.field.proofs.Bounds.{product-fits, root-small}
 use Rattle.field.proofs.Trial.{Tried, tried-none, tried-more, tried-prime, divided-not-prime, small-not-prime}
-use Rattle.field.proofs.is_prime.Statement.{statement}
-use Rattle.field.proofs.is_prime.Tie as tie
+use Rattle.field.proofs.primes.is_prime.Statement.{statement}
+use Rattle.field.proofs.primes.is_prime.Tie as tie
 
 abbrev Inv-loop : tie.InvT-loop
 Inv-loop p d₀ d = (2 ≤ d) × (d ≤ 65536) × Tried p d

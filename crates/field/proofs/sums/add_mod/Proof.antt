@@ -3,8 +3,8 @@ use mathlib.Core.Path.{sym, _∙_}
 use native.Mathlib.Nat.{mod-eq-of-lt, mod-eq-sub-mod}
 use native.Mathlib.Omega.{arith}
 use borrow.Author.Needs.{needs}
-use Rattle.field.proofs.add_mod.Statement.{statement}
-use Rattle.field.proofs.add_mod.Tie as tie
+use Rattle.field.proofs.sums.add_mod.Statement.{statement}
+use Rattle.field.proofs.sums.add_mod.Tie as tie
 
 add-s : tie.Need-add-s
 add-s c = search needs

@@ -13,8 +13,8 @@ use Rattle.field.specs.Moduli.{isModulus}
 use Rattle.field.specs.Answers.{value, residueOf}
 use Rattle.field.proofs.Moduli.{modulus-prime, modulus-passed, modulus-refused}
 use Rattle.field.proofs.Signs.{from-zero, mirrored, residue-from-zero, residue-below-zero}
-use Rattle.field.proofs.residue.Statement.{statement}
-use Rattle.field.proofs.residue.Tie as tie
+use Rattle.field.proofs.balances.residue.Statement.{statement}
+use Rattle.field.proofs.balances.residue.Tie as tie
 
 is-modulus : (c : tie.Else1) → isModulus (c .before .before .args .p) ≡ true
 is-modulus c = modulus-passed _ (c .before .modulus .ensures) (c .if1 .left)

@@ -1,12 +1,13 @@
 use mathlib.Core.Path.{_≡_, _∙_}
 use mathlib.Core.Bool.{true}
+use native.Mathlib.Omega.{arith}
 use borrow.Author.Needs.{needs}
 use borrow.Author.Tests.{lt-ltb, le-ltb}
 use Rattle.field.specs.Moduli.{isModulus}
 use Rattle.field.specs.Answers.{value, productOf}
 use Rattle.field.proofs.Moduli.{modulus-within, modulus-passed, modulus-refused}
-use Rattle.field.proofs.product.Statement.{statement}
-use Rattle.field.proofs.product.Tie as tie
+use Rattle.field.proofs.products.product.Statement.{statement}
+use Rattle.field.proofs.products.product.Tie as tie
 
 is-modulus : (c : tie.Else1) → isModulus (c .before .before .args .p) ≡ true
 is-modulus c = modulus-passed _ (c .before .modulus .ensures) (c .if1 .left)
@@ -39,7 +40,9 @@ returns-3 c =
     ∙ rw (is-modulus (c .before .before .before), lt-ltb _ _ (c .before .before .if2 .left), le-ltb _ _ (c .before .if3 .taken))
 
 mul-mod-requires : tie.Need-mul-mod-requires
-mul-mod-requires c κs = (modulus-within (is-modulus (c .before .before)), c .before .if2 .left, c .if3 .left)
+mul-mod-requires c κs =
+    let within = modulus-within (is-modulus (c .before .before)) in
+    (omega arith, omega arith, omega arith)
 
 returns-4 : tie.Need-returns-4
 unfolding productOf

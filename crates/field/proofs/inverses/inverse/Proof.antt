@@ -6,8 +6,8 @@ use borrow.Author.Tests.{lt-ltb, le-ltb}
 use Rattle.field.specs.Moduli.{isModulus}
 use Rattle.field.specs.Answers.{value, inverseOf}
 use Rattle.field.proofs.Moduli.{modulus-prime, modulus-within, modulus-passed, modulus-refused}
-use Rattle.field.proofs.inverse.Statement.{statement}
-use Rattle.field.proofs.inverse.Tie as tie
+use Rattle.field.proofs.inverses.inverse.Statement.{statement}
+use Rattle.field.proofs.inverses.inverse.Tie as tie
 
 is-modulus : (c : tie.Else1) → isModulus (c .before .before .args .p) ≡ true
 is-modulus c = modulus-passed _ (c .before .modulus .ensures) (c .if1 .left)

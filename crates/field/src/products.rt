@@ -1,0 +1,34 @@
+ghost use mathlib.Core.Path.{_≡_};
+ghost use Prim.Native.Nat.{_*_, _%_, _<_, _≤_};
+ghost use Rattle.field.specs.Moduli.{limit};
+ghost use Rattle.field.specs.Answers.{productOf};
+use crate::Value;
+use crate::primes::modulus;
+use crate::refused;
+
+// The product of two residues.
+pub fn product(p: u64, a: u64, b: u64) -> Value
+    ensures { λ r. ⌜ r ≡ productOf p a b ⌝ }
+{
+    if modulus(p) != 0 {
+        return refused(1);
+    }
+    if p <= a {
+        return refused(6);
+    }
+    if p <= b {
+        return refused(6);
+    }
+    Value {
+        number: 0,
+        value: mul_mod(p, a, b),
+    }
+}
+
+// a · b, unchecked. The operands need not be reduced.
+pub fn mul_mod(p: u64, a: u64, b: u64) -> u64
+    requires { ⌜ (0 < p) × (a ≤ limit) × (b ≤ limit) ⌝ }
+    ensures { λ r. ⌜ r ≡ a * b % p ⌝ }
+{
+    a * b % p
+}
