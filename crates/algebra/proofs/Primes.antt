@@ -1,6 +1,7 @@
 -- Laws of prime moduli.
 --
 --   prime-of-test, test-of-prime     isPrime p just where p is a prime
+--   below-not-zero                   a number from 1 to p − 1 is not the same as 0
 --   one-not-zero                     1 is not the same as 0
 --   inverse-law                      a · inverse p a is the same as 1, where a is not the same as 0
 --   inverse-below, inverse-positive  inverse p a is 1 to p − 1 there
@@ -58,6 +59,9 @@ test-of-prime {p} P = rw (le-leb 2 p (P .two)) (eq-eqb _ _ (first-unique (divide
     fails : (j : ℕ) → 2 ≤ j → j < p → divides p j ≡ false
     fails j h k = ne-eqb _ _ (λ e. elim (P .only j (dvd-of-mod-eq-zero j e)) [ inl f ↦ omega arith | inr f ↦ omega arith ])
 
+pub below-not-zero : {p a : ℕ} → 0 < a → a < p → Same p a 0 → ⊥
+below-not-zero h k e = let z = same-below k (omega arith) e in omega arith
+
 -- A number whose product with a is the same as 1
 
 remainder-step : (p a q r y : ℕ) → 0 < p → q * a + r ≡ p → Same p (a * ((p - 1) * q * y)) (r * y)
@@ -69,10 +73,7 @@ remainder-step p a q r y h e =
 
 module _ {p : ℕ} (P : Prime p) where
   pub one-not-zero : Same p 1 0 → ⊥
-  one-not-zero e =
-      let h : 2 ≤ p = P .two in
-      let f : 1 % p ≡ 1 = mod-eq-of-lt h in
-      omega (arith, e .same, zero-mod p)
+  one-not-zero = below-not-zero (omega arith) (P .two)
 
   remainder-positive : (a : ℕ) → 1 < a → a < p → 0 < p % a
   remainder-positive a h k =

@@ -21,8 +21,8 @@ use lib.Dec.{ltb}
 use lib.IntN.{ℤ, pos, negsuc}
 use borrow.Author.Tests.{ltb-true, lt-ltb, le-leb, lt-leb}
 use Rattle.algebra.specs.Residues.{Same, Prime, pick}
-use Rattle.algebra.proofs.Residues.{same-eq, same-sym, same-trans, same-mod, same-multiple, same-add, same-cancel, same-minus, same-below}
-use Rattle.algebra.proofs.Primes.{inverse-law, inverse-below}
+use Rattle.algebra.proofs.Residues.{same-eq, same-sym, same-trans, same-mod, same-multiple, same-add, same-cancel, same-minus}
+use Rattle.algebra.proofs.Primes.{below-not-zero, inverse-law, inverse-below}
 use Rattle.field.specs.declared.Balance.{Balance}
 use Rattle.field.specs.Moduli.{limit, isModulus, modulusOf}
 use Rattle.field.specs.Answers.{orRefused, value, noValue, sumOf, productOf, inverseOf, balancedValue, balancedOf, residueValue, residueOf}
@@ -88,7 +88,7 @@ residue-done p n =
 pub inverse-undoes : {p : ℕ} → Prime p → p ≤ limit → (a : ℕ) → 0 < a → a < p → productOf p a (inverseOf p a .value) ≡ value 1
 unfolding productOf inverseOf
 inverse-undoes {p} P h a k l =
-    let n : Same p a 0 → ⊥ = λ e. let z : a ≡ 0 = same-below l (omega arith) e in omega arith in
+    let n : Same p a 0 → ⊥ = below-not-zero k l in
     rw (modulus-of P h, lt-ltb 0 a k, lt-ltb a p l, lt-ltb _ _ (inverse-below P a n))
     (λ i. value ((inverse-law P a n .same ∙ mod-eq-of-lt (P .two)) i))
 

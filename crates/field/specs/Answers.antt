@@ -1,11 +1,15 @@
 -- What each field operation answers: a number, 0 or that of a refusal, and a value, 0 beside a refusal.
 -- Refusal 1 comes first, where p is not a modulus; then 6, where an operand is not what it has to be.
 --
---   sumOf p a b          a + b modulo p
---   productOf p a b      a · b modulo p
---   inverseOf p a        the x from 1 to p − 1 with a · x ≡ 1 modulo p; 0 has none
---   balancedOf p c       the balanced value of c: c where 2c is at most p, else c − p
---   residueOf p n        the residue of the whole number n, from 0 to p − 1; none is refused by 6
+--   orRefused            an answer, or the refusal that is due in its place
+--   value, noValue       reply 0 with a value; a refusal with the value 0
+--   sumOf p a b          the answer of the sum: a + b modulo p
+--   productOf p a b      of the product: a · b modulo p
+--   inverseOf p a        of the inverse: the x from 1 to p − 1 with a · x ≡ 1 modulo p; 0 has none
+--   balancedValue p c    the balanced value of the residue c: c where 2c is at most p, else c − p
+--   balancedOf p c       the answer with it
+--   residueValue p n     the residue of the whole number n, from 0 to p − 1
+--   residueOf p n        the answer with it; 6 refuses none
 use Prim.Native.Nat.{ℕ, _+_, _-_, _*_, _%_}
 use mathlib.Core.Bool.{Bool, true, _&&_}
 use lib.Dec.{leb, ltb}
@@ -21,35 +25,43 @@ orRefused refused p good v = pick (isModulus p) (pick good v (refused 6)) (refus
 
 -- Answers with a value from 0 to p − 1
 
+-- reply 0, and v
 abbrev pub value : ℕ → Value
 value v = record { number = 0; value = v }
 
+-- refusal r, and 0
 abbrev pub noValue : ℕ → Value
 noValue r = record { number = r; value = 0 }
 
+-- both operands below p: the remainder of a + b
 unfoldable pub sumOf : ℕ → ℕ → ℕ → Value
 sumOf p a b = orRefused noValue p (ltb a p && ltb b p) (value ((a + b) % p))
 
+-- both operands below p: the remainder of a · b
 unfoldable pub productOf : ℕ → ℕ → ℕ → Value
 productOf p a b = orRefused noValue p (ltb a p && ltb b p) (value (a * b % p))
 
+-- an operand from 1 to p − 1: its inverse
 unfoldable pub inverseOf : ℕ → ℕ → Value
 inverseOf p a = orRefused noValue p (ltb 0 a && ltb a p) (value (inverse p a))
 
 -- The balanced value, and back
 
+-- c where 2c is at most p, and c − p otherwise
 unfoldable pub balancedValue : ℕ → ℕ → ℤ
 balancedValue p c = pick (leb (2 * c) p) (pos c) (subℕ c p)
 
+-- an operand below p: its balanced value; 0 beside a refusal
 unfoldable pub balancedOf : ℕ → ℕ → Balance
 balancedOf p c =
     orRefused (λ r. record { number = r; value = pos 0 }) p (ltb c p)
     (record { number = 0; value = balancedValue p c })
 
--- of −(n + 1), which is `negsuc n`: what is left to p from the residue of n + 1, and 0 where that residue is 0
+-- Of n it is the remainder. Of −(n + 1), written `negsuc n`, it is p less the remainder of n + 1, and 0 where that is p.
 unfoldable pub residueValue : ℕ → ℤ → ℕ
 residueValue p (pos n) = n % p
 residueValue p (negsuc n) = (p - (n + 1) % p) % p
 
+-- any whole number: its residue
 unfoldable pub residueOf : ℕ → ℤ → Value
 residueOf p n = orRefused noValue p true (value (residueValue p n))
