@@ -1,16 +1,19 @@
 -- Laws of `first t i n`, the first of the n numbers i, i + 1, .. that passes the test t, or i + n.
 --
 --   first-none, first-here, first-next    one step: no number is left; i passes; i fails
+--   first-stop, first-up                  one step of a loop up to n: i passes; i fails
+--   first-down                            one step of a loop from n down: one number more in front
 --   first-from, first-within              it is at least i and at most i + n
 --   first-hit                             below i + n it passes
 --   first-miss                            every number from i and before it fails
 --   first-unique                          no other number from i to i + n has these properties
-use Prim.Native.Nat.{ℕ, zero, suc, _+_, _<_, _≤_}
-use mathlib.Core.Path.{_≡_, refl, ap}
+use Prim.Native.Nat.{ℕ, zero, suc, _+_, _-_, _<_, _≤_}
+use mathlib.Core.Path.{_≡_, refl, sym, _∙_, ap}
 use mathlib.Core.Bool.{Bool, true, false}
 use mathlib.Core.Logic.{_⊎_, inl, inr}
 use native.Mathlib.Nat.{le-refl, eq-or-lt-of-le}
 use native.Mathlib.Decide.{decLt}
+use native.Mathlib.Numerals.{add-one}
 use native.Mathlib.Omega.{arith}
 use Rattle.algebra.specs.Residues.{first, pick}
 
@@ -24,6 +27,24 @@ first-here t i n h = ap (λ b. pick b i (first t (suc i) n)) h
 
 pub first-next : (t : ℕ → Bool) (i n : ℕ) → t i ≡ false → first t i (suc n) ≡ first t (suc i) n
 first-next t i n h = ap (λ b. pick b i (first t (suc i) n)) h
+
+-- a scan from i up to n, at a number that passes and at one that fails, as a loop up to n has it
+pub first-stop : (t : ℕ → Bool) (i n : ℕ) → i < n → t i ≡ true → first t i (n - i) ≡ i
+first-stop t i n h e =
+    let more : n - i ≡ suc (n - (i + 1)) = omega arith in
+    ap (first t i) more ∙ first-here t i (n - (i + 1)) e
+
+pub first-up : (t : ℕ → Bool) (i n : ℕ) → i < n → t i ≡ false → first t i (n - i) ≡ first t (i + 1) (n - (i + 1))
+first-up t i n h e =
+    let more : n - i ≡ suc (n - (i + 1)) = omega arith in
+    ap (first t i) more ∙ first-next t i (n - (i + 1)) e ∙ ap (λ x. first t x (n - (i + 1))) (sym (add-one i))
+
+-- a scan from i up to n with one number more in front, as a loop from the last number down has it
+pub first-down : (t : ℕ → Bool) (i n : ℕ) {hit : Bool} {place r : ℕ} → 0 < i → i ≤ n → r ≡ pick hit (i - 1) place → hit ≡ t (i - 1) → place ≡ first t i (n - i) → r ≡ first t (i - 1) (n - (i - 1))
+first-down t i n h k er eh ep =
+    let up : i ≡ suc (i - 1) = omega arith in
+    let more : suc (n - i) ≡ n - (i - 1) = omega arith in
+    er ∙ (λ d. pick (eh d) (i - 1) (ep d)) ∙ ap (λ x. pick (t (i - 1)) (i - 1) (first t x (n - i))) up ∙ ap (first t (i - 1)) more
 
 -- Where it lies
 

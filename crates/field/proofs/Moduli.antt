@@ -3,12 +3,13 @@
 --   both-true                        a test of two parts passes where both pass
 --   modulus-prime, modulus-within    a modulus is a prime, and at most the limit
 --   modulus-of                       and a prime up to the limit is a modulus
+--   modulus-test                     the reply r is 0 just where p is a modulus, as a test
 --   modulus-passed, modulus-refused  a reply r of 0 says that p is a modulus, any other that it is not
 use Prim.Native.Nat.{ℕ, _≤_}
-use mathlib.Core.Path.{_≡_, refl, sym, _∙_}
+use mathlib.Core.Path.{_≡_, refl, sym, _∙_, ap}
 use mathlib.Core.Bool.{Bool, true, false, _&&_}
 use native.Mathlib.Omega.{arith}
-use lib.Dec.{leb}
+use lib.Dec.{leb, eqb}
 use borrow.Author.Tests.{leb-true, le-leb}
 use Rattle.algebra.specs.Residues.{Prime, isPrime, pick}
 use Rattle.algebra.proofs.Primes.{prime-of-test, test-of-prime}
@@ -45,3 +46,11 @@ modulus-passed p f e = picked-zero _ (sym f ∙ e)
 pub modulus-refused : (p : ℕ) {r : ℕ} → r ≡ modulusOf p → (r ≡ 0 → ⊥) → isModulus p ≡ false
 unfolding modulusOf
 modulus-refused p f n = picked-one _ (λ e. n (f ∙ e))
+
+zero-test : (b : Bool) → eqb (pick b 0 1) 0 ≡ b
+zero-test true = refl
+zero-test false = refl
+
+pub modulus-test : (p : ℕ) {r : ℕ} → r ≡ modulusOf p → eqb r 0 ≡ isModulus p
+unfolding modulusOf
+modulus-test p f = ap (λ x. eqb x 0) f ∙ zero-test (isModulus p)

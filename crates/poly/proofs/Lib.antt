@@ -1,0 +1,5 @@
+-- Laws of polynomials in memory that more than one function needs.
+pub mod Reports
+pub mod Faults
+pub mod Terms
+pub mod Parts

@@ -1,0 +1,42 @@
+-- A polynomial in memory: records of two words, the monomial word and then the coefficient word.
+--
+--   records s           how many whole records a slice has
+--   wordAt s i          the monomial word of record i
+--   numberAt s i        the coefficient word of record i
+--   termAt l s i        the term that record i is, in the layout l
+--   terms l s i n       the n terms from record i on
+--   polyOf l s          the polynomial that a slice is
+--   wordsOf l f         the words of a polynomial
+--   filled n ws         the words ws, then zero words up to a length of n
+use Prim.Native.Nat.{ℕ, zero, suc, _+_, _-_, _*_, _/_}
+use mathlib.Core.List.{List, [], _∷_, _++_}
+use lib.ListN.{length, getD, replicate}
+use Rattle.algebra.specs.Monomials.{Letters}
+use Rattle.algebra.specs.Polynomials.{Term, term, Poly}
+use Rattle.monomial.specs.Layout.{Layout, exponentsOf, wordOf}
+
+abbrev pub records : List ℕ → ℕ
+records s = length s / 2
+
+abbrev pub wordAt : List ℕ → ℕ → ℕ
+wordAt s i = getD s (2 * i) 0
+
+abbrev pub numberAt : List ℕ → ℕ → ℕ
+numberAt s i = getD s (2 * i + 1) 0
+
+abbrev pub termAt : (l : Layout) → List ℕ → ℕ → Term (Letters (l .count))
+termAt l s i = term (exponentsOf (l .width) (l .count) (wordAt s i)) (numberAt s i)
+
+abbrev pub terms : (l : Layout) → List ℕ → ℕ → ℕ → Poly (Letters (l .count))
+terms l s i zero = []
+terms l s i (suc n) = termAt l s i ∷ terms l s (suc i) n
+
+unfoldable pub polyOf : (l : Layout) → List ℕ → Poly (Letters (l .count))
+polyOf l s = terms l s 0 (records s)
+
+abbrev pub wordsOf : (l : Layout) → Poly (Letters (l .count)) → List ℕ
+wordsOf l [] = []
+wordsOf l (u ∷ f) = wordOf (l .width) (l .count) (u .mon) ∷ u .num ∷ wordsOf l f
+
+abbrev pub filled : ℕ → List ℕ → List ℕ
+filled n ws = ws ++ replicate (n - length ws) 0
