@@ -9,3 +9,4 @@ pub mod Leads
 pub mod Degrees
 pub mod Walk
 pub mod Exact
+pub mod Coding
