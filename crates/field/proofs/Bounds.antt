@@ -1,8 +1,9 @@
 -- What fits a 64-bit word.
 --
---   product-fits    the product of two numbers up to the limit
+--   product-small   the product of two numbers up to the limit is below 2 ^ 62
+--   product-fits    it fits
 --   root-small      a number whose square is at most the limit is below 65,536
-use Prim.Native.Nat.{ℕ, _*_, _<_, _≤_}
+use Prim.Native.Nat.{ℕ, _*_, _^_, _<_, _≤_}
 use native.Mathlib.Nat.{mul-le-mul}
 use native.Mathlib.Decide.{decLt}
 use native.Mathlib.Omega.{arith}
@@ -10,8 +11,11 @@ use mir.Syntax.{w64}
 use mir.Val.{Fits}
 use Rattle.field.specs.Moduli.{limit}
 
+pub product-small : (a b : ℕ) → a ≤ limit → b ≤ limit → a * b < 2 ^ 62
+product-small a b h k = let m : a * b ≤ limit * limit = mul-le-mul h k in omega arith
+
 pub product-fits : (a b : ℕ) → a ≤ limit → b ≤ limit → Fits w64 (a * b)
-product-fits a b h k = record { fits = let m : a * b ≤ limit * limit = mul-le-mul h k in omega arith }
+product-fits a b h k = omega (arith, product-small a b h k)
 
 pub root-small : (d : ℕ) → d * d ≤ limit → d < 65536
 root-small d h =

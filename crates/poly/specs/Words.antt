@@ -5,13 +5,14 @@
 --   numberAt s i        the coefficient word of record i
 --   termAt l s i        the term that record i is, in the layout l
 --   terms l s i n       the n terms from record i on
+--   span s i n          the same n records with the words themselves for monomials: what the engine computes with
 --   polyOf l s          the polynomial that a slice is
 --   wordsOf l f         the words of a polynomial
 --   filled n ws         the words ws, then zero words up to a length of n
 use Prim.Native.Nat.{ℕ, zero, suc, _+_, _-_, _*_, _/_}
 use mathlib.Core.List.{List, [], _∷_, _++_}
 use lib.ListN.{length, getD, replicate}
-use Rattle.algebra.specs.Monomials.{Letters}
+use Rattle.algebra.specs.Monomials.{Letters, Numbers}
 use Rattle.algebra.specs.Polynomials.{Term, term, Poly}
 use Rattle.monomial.specs.Layout.{Layout, exponentsOf, wordOf}
 
@@ -30,6 +31,11 @@ termAt l s i = term (exponentsOf (l .width) (l .count) (wordAt s i)) (numberAt s
 abbrev pub terms : (l : Layout) → List ℕ → ℕ → ℕ → Poly (Letters (l .count))
 terms l s i zero = []
 terms l s i (suc n) = termAt l s i ∷ terms l s (suc i) n
+
+-- the same records with the monomial words as they stand: words are monomials of their own, multiplied by adding them
+abbrev pub span : List ℕ → ℕ → ℕ → Poly Numbers
+span s i zero = []
+span s i (suc n) = term (wordAt s i) (numberAt s i) ∷ span s (suc i) n
 
 unfoldable pub polyOf : (l : Layout) → List ℕ → Poly (Letters (l .count))
 polyOf l s = terms l s 0 (records s)

@@ -1,0 +1,4 @@
+-- Laws of the ring calls that more than one function needs.
+pub mod Records
+pub mod Ways
+pub mod Taking

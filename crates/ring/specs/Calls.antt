@@ -1,0 +1,49 @@
+-- What the ring calls do, as document 01 has it.
+--
+--   sumOf p a b room             the sum of two polynomials, in its normal form
+--   differenceOf p a b room      the difference
+--   productOf p a b room work    the product: 9 where an exponent could be over the largest, before 10
+--   burstAt a b                  the first letter v with M(a, v) + M(b, v) over the largest exponent; the number of letters if none
+use Prim.Native.Nat.{ℕ, _+_, _*_, min}
+use mathlib.Core.Bool.{Bool}
+use mathlib.Core.List.{List, [], _∷_, _++_}
+use lib.Dec.{ltb}
+use Rattle.algebra.specs.Residues.{pick, first}
+use Rattle.algebra.specs.Monomials.{Letters, exponent}
+use Rattle.algebra.specs.Orders.{Lex}
+use Rattle.algebra.specs.Polynomials.{Poly, mul, negated, largest, norm}
+use Rattle.monomial.specs.Layout.{base, largestExponent}
+use Rattle.poly.specs.Words.{records, polyOf}
+use Rattle.poly.specs.Reports.{refusal}
+use Rattle.poly.specs.Rules.{Lent, inputTerms, roomTerms, refusals, workRule}
+use Rattle.poly.specs.declared.report.Report.{Report}
+use Rattle.ring.specs.Outcomes.{Outcome, outcome, unlessRefused, cleared, inRoom}
+
+-- the refusals 1 to 6 of a call with two inputs and one room
+abbrev pub twoInputs : ℕ → List ℕ → List ℕ → List ℕ → List Report
+twoInputs p a b room =
+    refusals base p
+    (record { operand = 1; words = a; most = inputTerms } ∷ record { operand = 2; words = b; most = inputTerms } ∷ [])
+    (record { operand = 3; words = room; most = roomTerms } ∷ [])
+
+unfoldable pub sumOf : ℕ → List ℕ → List ℕ → List ℕ → Outcome
+sumOf p a b room =
+    unlessRefused (twoInputs p a b room) room []
+    (inRoom (norm (Lex 4) p (polyOf base a ++ polyOf base b)) room [])
+
+unfoldable pub differenceOf : ℕ → List ℕ → List ℕ → List ℕ → Outcome
+differenceOf p a b room =
+    unlessRefused (twoInputs p a b room) room []
+    (inRoom (norm (Lex 4) p (polyOf base a ++ negated p (polyOf base b))) room [])
+
+abbrev pub burstAt : Poly (Letters 4) → Poly (Letters 4) → ℕ
+burstAt f g = first (λ v. ltb (largestExponent 16) (largest (exponent 4 v) f + largest (exponent 4 v) g)) 0 4
+
+unfoldable pub productOf : ℕ → List ℕ → List ℕ → List ℕ → List ℕ → Outcome
+productOf p a b room work =
+    let f = polyOf base a in
+    let g = polyOf base b in
+    unlessRefused (twoInputs p a b room ++ (workRule (4 * min (records a) (records b)) work ∷ [])) room work
+    (pick (ltb (burstAt f g) 4)
+    (outcome (refusal 9 0 0) (cleared room) (cleared work))
+    (inRoom (norm (Lex 4) p (mul f g)) room work))
