@@ -1,4 +1,5 @@
 -- The laws of the mathematics, in the order in which they build on one another.
+pub mod Tests
 pub mod Scan
 pub mod Residues
 pub mod Primes

@@ -1,5 +1,6 @@
 -- Laws of polynomials in memory that more than one function needs.
 pub mod Reports
 pub mod Faults
+pub mod Valid
 pub mod Terms
 pub mod Parts

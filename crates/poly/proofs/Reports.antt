@@ -1,9 +1,107 @@
 -- Laws of reports.
 --
---   chain        one link of an ordered fold of rules
-use mathlib.Core.Path.{_≡_, _∙_}
-use Rattle.poly.specs.Reports.{orElse}
+--   chain            one link of an ordered fold of rules
+--   Passed rs        every report of rs has the number 0
+--   passed-append, append-passed     of two lists of reports, one after the other
+--   fold-passed      a fold that refuses nothing: every report of it passed, and the last
+--   passed-fold      where every report passed, the fold answers the last
+--   fold-tells       the first report that refuses is the one told
+--   fold-refused     a fold that refuses answers the same, whatever stands last
+--   fold-append      a fold over two lists, one after the other
+--   Other n rs       no report of rs has the number n
+--   fold-told        where a fold tells the number of one of its reports and of no other, all before it passed and it is told
+use Prim.Native.Nat.{ℕ}
+use mathlib.Core.Path.{_≡_, refl, sym, _∙_, ap}
+use mathlib.Core.Bool.{Bool, true, false}
+use mathlib.Core.List.{List, [], _∷_, _++_}
+use lib.Dec.{eqb}
+use borrow.Author.Tests.{eqb-true, eqb-false, eq-eqb, ne-eqb}
+use Rattle.algebra.specs.Residues.{pick}
+use Rattle.poly.specs.Reports.{orElse, firstOr}
 use Rattle.poly.specs.declared.report.Report.{Report}
 
 pub chain : {t q q′ s s′ : Report} → t ≡ orElse q s → q ≡ q′ → s ≡ s′ → t ≡ orElse q′ s′
 chain e f g = e ∙ (λ d. orElse (f d) (g d))
+
+-- One link
+
+module _ (a b : Report) where
+  pub or-else-next : a .number ≡ 0 → orElse a b ≡ b
+  or-else-next e = ap (λ t. pick t b a) (eq-eqb (a .number) 0 e)
+
+  pub or-else-here : (a .number ≡ 0 → ⊥) → orElse a b ≡ a
+  or-else-here n = ap (λ t. pick t b a) (ne-eqb (a .number) 0 n)
+
+  pub or-else-passed : orElse a b .number ≡ 0 → (a .number ≡ 0) × (b .number ≡ 0)
+  or-else-passed e = go (eqb (a .number) 0) refl e
+    where
+      go : (t : Bool) → eqb (a .number) 0 ≡ t → pick t b a .number ≡ 0 → (a .number ≡ 0) × (b .number ≡ 0)
+      go true h k = (eqb-true (a .number) 0 h, k)
+      go false h k = absurd (eqb-false (a .number) 0 h k)
+
+-- A fold
+
+abbrev pub Passed : List Report → Type 0
+Passed [] = Unit {0}
+Passed (r ∷ rs) = (r .number ≡ 0) × Passed rs
+
+pub passed-append : (rs ss : List Report) → Passed (rs ++ ss) → Passed rs × Passed ss
+passed-append [] ss h = (tt, h)
+passed-append (r ∷ rs) ss h = let k = passed-append rs ss (h .1) in ((h .0, k .0), k .1)
+
+pub append-passed : (rs ss : List Report) → Passed rs → Passed ss → Passed (rs ++ ss)
+append-passed [] ss h k = k
+append-passed (r ∷ rs) ss h k = (h .0, append-passed rs ss (h .1) k)
+
+pub fold-passed : (rs : List Report) (otherwise : Report) → firstOr rs otherwise .number ≡ 0 → Passed rs × (otherwise .number ≡ 0)
+fold-passed [] otherwise h = (tt, h)
+fold-passed (r ∷ rs) otherwise h =
+    let k = or-else-passed r (firstOr rs otherwise) h in
+    let rest = fold-passed rs otherwise (k .1) in
+    ((k .0, rest .0), rest .1)
+
+pub passed-fold : (rs : List Report) (otherwise : Report) → Passed rs → firstOr rs otherwise ≡ otherwise
+passed-fold [] otherwise h = refl
+passed-fold (r ∷ rs) otherwise h = or-else-next r (firstOr rs otherwise) (h .0) ∙ passed-fold rs otherwise (h .1)
+
+pub fold-append : (rs ss : List Report) (otherwise : Report) → firstOr (rs ++ ss) otherwise ≡ firstOr rs (firstOr ss otherwise)
+fold-append [] ss otherwise = refl
+fold-append (r ∷ rs) ss otherwise = ap (orElse r) (fold-append rs ss otherwise)
+
+pub fold-tells : (before : List Report) (r : Report) (after : List Report) (otherwise : Report) → Passed before → (r .number ≡ 0 → ⊥) → firstOr (before ++ r ∷ after) otherwise ≡ r
+fold-tells before r after otherwise h n =
+    fold-append before (r ∷ after) otherwise ∙ passed-fold before (firstOr (r ∷ after) otherwise) h ∙ or-else-here r (firstOr after otherwise) n
+
+pub fold-refused : (rs : List Report) (a b : Report) → a .number ≡ 0 → (firstOr rs a .number ≡ 0 → ⊥) → firstOr rs a ≡ firstOr rs b
+fold-refused [] a b e n = absurd (n e)
+fold-refused (r ∷ rs) a b e n = go (eqb (r .number) 0) refl (fold-refused rs a b e)
+  where
+    go : (t : Bool) → eqb (r .number) 0 ≡ t → ((firstOr rs a .number ≡ 0 → ⊥) → firstOr rs a ≡ firstOr rs b) → pick t (firstOr rs a) r ≡ pick t (firstOr rs b) r
+    go true h rest = rest (λ z. n (ap (λ (x : Report). x .number) (or-else-next r (firstOr rs a) (eqb-true (r .number) 0 h)) ∙ z))
+    go false h rest = refl
+
+-- The report that a number told stands for
+
+abbrev pub Other : ℕ → List Report → Type 0
+Other n [] = Unit {0}
+Other n (r ∷ rs) = (r .number ≡ n → ⊥) × Other n rs
+
+other-passed : (n : ℕ) (rs : List Report) (otherwise : Report) → Other n rs → firstOr rs otherwise .number ≡ n → Passed rs
+other-passed n [] otherwise h e = tt
+other-passed n (r ∷ rs) otherwise h e = go (eqb (r .number) 0) refl e (other-passed n rs otherwise (h .1))
+  where
+    go : (t : Bool) → eqb (r .number) 0 ≡ t → pick t (firstOr rs otherwise) r .number ≡ n → (firstOr rs otherwise .number ≡ n → Passed rs) → Passed (r ∷ rs)
+    go true f k rest = (eqb-true (r .number) 0 f, rest k)
+    go false f k rest = absurd (h .0 k)
+
+pub fold-told : (n : ℕ) (before : List Report) (r : Report) (after : List Report) (otherwise : Report) → Other n before → Other n after → (otherwise .number ≡ n → ⊥) → firstOr (before ++ r ∷ after) otherwise .number ≡ n → Passed before × (firstOr (before ++ r ∷ after) otherwise ≡ r)
+fold-told n before r after otherwise hb ha ho e =
+    let append = fold-append before (r ∷ after) otherwise in
+    let k : firstOr before (firstOr (r ∷ after) otherwise) .number ≡ n = ap (λ (x : Report). x .number) (sym append) ∙ e in
+    let passed = other-passed n before (firstOr (r ∷ after) otherwise) hb k in
+    let skipped = passed-fold before (firstOr (r ∷ after) otherwise) passed in
+    (passed, append ∙ skipped ∙ go (eqb (r .number) 0) refl (ap (λ (x : Report). x .number) (sym skipped) ∙ k))
+  where
+    go : (t : Bool) → eqb (r .number) 0 ≡ t → pick t (firstOr after otherwise) r .number ≡ n → pick t (firstOr after otherwise) r ≡ r
+    go true f k = absurd (ho (ap (λ (x : Report). x .number) (sym (passed-fold after otherwise (other-passed n after otherwise ha k))) ∙ k))
+    go false f k = refl
