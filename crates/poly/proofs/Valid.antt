@@ -65,6 +65,7 @@ use Rattle.poly.proofs.Reports.{
   fold-passed,
   passed-fold,
   fold-tells,
+  fold-told,
 }
 
 pub record Valid (p : ℕ) (s : List ℕ) : Type 0 where
@@ -299,3 +300,235 @@ module _ (P Q : Lent → Type 0) where
   pub each-both : (slices : List Lent) → Each P slices → Each Q slices → Each (λ s. P s × Q s) slices
   each-both [] h k = tt
   each-both (s ∷ slices) h k = ((h .0, k .0), each-both slices (h .1) (k .1))
+
+-- A call: the rules 1 to 6 together
+
+module _ (slices : List Lent) where
+  pub shapes-passed : Passed (shapeRules slices) → Each (λ s. Shaped s) slices
+  shapes-passed h =
+      let k = passed-append (map (λ s. oddRule (s .operand) (s .words)) slices) (map (λ s. longRule (s .most) (s .operand) (s .words)) slices) h in
+      each-map (λ s. (length (s .words) ≡ 2 * records (s .words)) × (records (s .words) ≤ s .most)) (λ s. Shaped s) (λ s f. record { even = f .0; short = f .1 }) slices
+      (each-both (λ s. length (s .words) ≡ 2 * records (s .words)) (λ s. records (s .words) ≤ s .most) slices
+      (rules-passed (λ s. length (s .words) ≡ 2 * records (s .words)) (λ s. oddRule (s .operand) (s .words)) (λ s. odd-passed (s .operand) (s .words)) slices (k .0))
+      (rules-passed (λ s. records (s .words) ≤ s .most) (λ s. longRule (s .most) (s .operand) (s .words)) (λ s. long-passed (s .operand) (s .words) (s .most)) slices (k .1)))
+
+  pub passed-shapes : Each (λ s. Shaped s) slices → Passed (shapeRules slices)
+  passed-shapes h =
+      append-passed (map (λ s. oddRule (s .operand) (s .words)) slices) (map (λ s. longRule (s .most) (s .operand) (s .words)) slices)
+      (passed-rules (λ s. Shaped s) (λ s. oddRule (s .operand) (s .words)) (λ s f. passed-odd (s .operand) (s .words) (f .even)) slices h)
+      (passed-rules (λ s. Shaped s) (λ s. longRule (s .most) (s .operand) (s .words)) (λ s f. passed-long (s .operand) (s .words) (s .most) (f .short)) slices h)
+
+-- what 4, 5 and 6 ask of an input
+record Terms (p : ℕ) (s : Lent) : Type 0 where
+  monomials : (i : ℕ) → i < records (s .words) → isMonomial base (wordAt (s .words) i) ≡ true
+  falls : (i : ℕ) → suc i < records (s .words) → wordAt (s .words) (suc i) < wordAt (s .words) i
+  numbers : (i : ℕ) → i < records (s .words) → (0 < numberAt (s .words) i) × (numberAt (s .words) i < p)
+
+module _ (p : ℕ) (inputs : List Lent) where
+  terms-passed : Passed (orderRules base inputs) → Passed (numberRules p inputs) → Each (λ s. Terms p s) inputs
+  terms-passed h k =
+      let j = passed-append (map (λ s. guardRule base (s .operand) (s .words)) inputs) (map (λ s. orderRule (s .operand) (s .words)) inputs) h in
+      go inputs (j .0) (j .1) k
+    where
+      go : (slices : List Lent) → Passed (map (λ s. guardRule base (s .operand) (s .words)) slices) → Passed (map (λ s. orderRule (s .operand) (s .words)) slices) → Passed (numberRules p slices) → Each (λ s. Terms p s) slices
+      go [] a b c = tt
+      go (s ∷ slices) a b c = (
+        record {
+          monomials = guard-passed (s .operand) (s .words) (a .0);
+          falls = order-passed (s .operand) (s .words) (b .0);
+          numbers = number-passed (s .operand) (s .words) p (c .0);
+        },
+        go slices (a .1) (b .1) (c .1),
+      )
+
+  passed-orders : Each (λ s. Terms p s) inputs → Passed (orderRules base inputs)
+  passed-orders h =
+      append-passed (map (λ s. guardRule base (s .operand) (s .words)) inputs) (map (λ s. orderRule (s .operand) (s .words)) inputs)
+      (passed-rules (λ s. Terms p s) (λ s. guardRule base (s .operand) (s .words)) (λ s f. passed-guard (s .operand) (s .words) (f .monomials)) inputs h)
+      (passed-rules (λ s. Terms p s) (λ s. orderRule (s .operand) (s .words)) (λ s f. passed-order (s .operand) (s .words) (f .falls)) inputs h)
+
+  passed-numbers : Each (λ s. Terms p s) inputs → Passed (numberRules p inputs)
+  passed-numbers h =
+      passed-rules (λ s. Terms p s) (λ s. numberRule p (s .operand) (s .words)) (λ s f. passed-number (s .operand) (s .words) p (f .numbers)) inputs h
+
+module _ (p : ℕ) (inputs outputs : List Lent) where
+  pub refusals-accepted : Passed (refusals base p inputs outputs) → Accepted p inputs outputs
+  refusals-accepted h =
+      let k = passed-append (shapeRules (inputs ++ outputs) ++ orderRules base inputs) (numberRules p inputs) (h .1) in
+      let j = passed-append (shapeRules (inputs ++ outputs)) (orderRules base inputs) (k .0) in
+      let shaped = each-append (λ s. Shaped s) inputs outputs (shapes-passed (inputs ++ outputs) (j .0)) in
+      record {
+        modulus = modulus-passed p (h .0);
+        ins =
+            each-map (λ s. Shaped s × Terms p s) (λ s. Input p s)
+            (λ s f. record {
+              valid = record { even = f .0 .even; monomials = f .1 .monomials; falls = f .1 .falls; numbers = f .1 .numbers };
+              short = f .0 .short;
+            })
+            inputs
+            (each-both (λ s. Shaped s) (λ s. Terms p s) inputs (shaped .0) (terms-passed p inputs (j .1) (k .1)));
+        outs = shaped .1;
+      }
+
+  pub accepted-refusals : Accepted p inputs outputs → Passed (refusals base p inputs outputs)
+  accepted-refusals a =
+      let terms = each-map (λ s. Input p s) (λ s. Terms p s) (λ s f. record { monomials = f .valid .monomials; falls = f .valid .falls; numbers = f .valid .numbers }) inputs (a .ins) in
+      let shaped = each-map (λ s. Input p s) (λ s. Shaped s) (λ s f. record { even = f .valid .even; short = f .short }) inputs (a .ins) in (
+        ap (λ (r : Report). r .number) (passed-modulus p (a .modulus)),
+        append-passed (shapeRules (inputs ++ outputs) ++ orderRules base inputs) (numberRules p inputs)
+        (append-passed (shapeRules (inputs ++ outputs)) (orderRules base inputs)
+        (passed-shapes (inputs ++ outputs) (append-each (λ s. Shaped s) inputs outputs shaped (a .outs)))
+        (passed-orders p inputs terms))
+        (passed-numbers p inputs terms),
+      )
+
+  module _ (more : List Report) (otherwise : Report) where
+    pub fold-accepted : firstOr (refusals base p inputs outputs ++ more) otherwise .number ≡ 0 → Accepted p inputs outputs × Passed more
+    fold-accepted e =
+        let k = passed-append (refusals base p inputs outputs) more (fold-passed (refusals base p inputs outputs ++ more) otherwise e .0) in
+        (refusals-accepted (k .0), k .1)
+
+    pub accepted-fold : Accepted p inputs outputs → firstOr (refusals base p inputs outputs ++ more) otherwise ≡ firstOr more otherwise
+    accepted-fold a =
+        fold-append (refusals base p inputs outputs) more otherwise
+        ∙ passed-fold (refusals base p inputs outputs) (firstOr more otherwise) (accepted-refusals a)
+
+-- The check
+
+module _ (p : ℕ) (s : List ℕ) where
+  pub check-passed : (isModulus p ≡ true) × Valid p s × (records s ≤ inputTerms) → checkOf p s ≡ done (records s) 0
+  unfolding checkOf
+  check-passed h =
+      passed-fold (refusals base p (asInput s ∷ []) []) (done (records s) 0)
+      (accepted-refusals p (asInput s ∷ []) [] (record { modulus = h .0; ins = (record { valid = h .1; short = h .2 }, tt); outs = tt }))
+
+  pub check-valid : (checkOf p s .number ≡ 0) ↔ ((isModulus p ≡ true) × Valid p s × (records s ≤ inputTerms))
+  unfolding checkOf
+  check-valid = (
+    λ e.
+        let a = refusals-accepted p (asInput s ∷ []) [] (fold-passed (refusals base p (asInput s ∷ []) []) (done (records s) 0) e .0) in
+        (a .modulus, a .ins .0 .valid, a .ins .0 .short),
+    λ h. ap (λ (r : Report). r .number) (check-passed h),
+  )
+
+  -- The check tells a refusal just where its rule says so and none of a lower number is due
+
+  pub check-tells-1 : (checkOf p s ≡ refusal 1 0 0) ↔ ((isModulus p ≡ false))
+  unfolding checkOf modulusRule
+  check-tells-1 = (
+    λ e.
+        let f =
+        fold-told 1 ([]) (modulusRule p) (oddRule 1 s ∷ longRule inputTerms 1 s ∷ guardRule base 1 s ∷ orderRule 1 s ∷ numberRule p 1 s ∷ []) (done (records s) 0)
+        tt
+        (odd-other 1 s 1 (omega arith) (λ z. omega arith), (long-other 1 s inputTerms 1 (omega arith) (λ z. omega arith), (guard-other 1 s 1 (omega arith) (λ z. omega arith), (order-other 1 s 1 (omega arith) (λ z. omega arith), (number-other 1 s p 1 (omega arith) (λ z. omega arith), (tt))))))
+        (λ z. omega arith)
+        (ap (λ (r : Report). r .number) e)
+        in
+        unless-told (isModulus p) 1 0 (omega arith) (ap (λ (r : Report). r .number) (sym (f .1) ∙ e)),
+    λ h.
+        let told : modulusRule p ≡ refusal 1 0 0 = unless-tells (isModulus p) 1 0 h in
+        fold-tells ([]) (modulusRule p) (oddRule 1 s ∷ longRule inputTerms 1 s ∷ guardRule base 1 s ∷ orderRule 1 s ∷ numberRule p 1 s ∷ []) (done (records s) 0)
+        tt
+        (λ z. omega (arith, ap (λ (r : Report). r .number) told))
+        ∙ told,
+  )
+
+  pub check-tells-2 : (checkOf p s ≡ refusal 2 1 0) ↔ ((isModulus p ≡ true) × (length s % 2 ≡ 1))
+  unfolding checkOf oddRule
+  check-tells-2 = (
+    λ e.
+        let f =
+        fold-told 2 (modulusRule p ∷ []) (oddRule 1 s) (longRule inputTerms 1 s ∷ guardRule base 1 s ∷ orderRule 1 s ∷ numberRule p 1 s ∷ []) (done (records s) 0)
+        (modulus-other p 2 (omega arith) (λ z. omega arith), (tt))
+        (long-other 1 s inputTerms 2 (omega arith) (λ z. omega arith), (guard-other 1 s 2 (omega arith) (λ z. omega arith), (order-other 1 s 2 (omega arith) (λ z. omega arith), (number-other 1 s p 2 (omega arith) (λ z. omega arith), (tt)))))
+        (λ z. omega arith)
+        (ap (λ (r : Report). r .number) e)
+        in
+        (modulus-passed p (f .0 .0), let z : length s % 2 ≡ 0 → ⊥ = eqb-false (length s % 2) 0 (unless-told (eqb (length s % 2) 0) 2 1 (omega arith) (ap (λ (r : Report). r .number) (sym (f .1) ∙ e))) in omega arith),
+    λ h.
+        let told : oddRule 1 s ≡ refusal 2 1 0 = unless-tells (eqb (length s % 2) 0) 2 1 (ne-eqb (length s % 2) 0 (λ z. omega (arith, h .1))) in
+        fold-tells (modulusRule p ∷ []) (oddRule 1 s) (longRule inputTerms 1 s ∷ guardRule base 1 s ∷ orderRule 1 s ∷ numberRule p 1 s ∷ []) (done (records s) 0)
+        (ap (λ (r : Report). r .number) (passed-modulus p (h .0)), (tt))
+        (λ z. omega (arith, ap (λ (r : Report). r .number) told))
+        ∙ told,
+  )
+
+  pub check-tells-3 : (checkOf p s ≡ refusal 3 1 0) ↔ ((isModulus p ≡ true) × (length s ≡ 2 * records s) × (inputTerms < records s))
+  unfolding checkOf longRule
+  check-tells-3 = (
+    λ e.
+        let f =
+        fold-told 3 (modulusRule p ∷ oddRule 1 s ∷ []) (longRule inputTerms 1 s) (guardRule base 1 s ∷ orderRule 1 s ∷ numberRule p 1 s ∷ []) (done (records s) 0)
+        (modulus-other p 3 (omega arith) (λ z. omega arith), (odd-other 1 s 3 (omega arith) (λ z. omega arith), (tt)))
+        (guard-other 1 s 3 (omega arith) (λ z. omega arith), (order-other 1 s 3 (omega arith) (λ z. omega arith), (number-other 1 s p 3 (omega arith) (λ z. omega arith), (tt))))
+        (λ z. omega arith)
+        (ap (λ (r : Report). r .number) e)
+        in
+        (modulus-passed p (f .0 .0), odd-passed 1 s (f .0 .1 .0), leb-false (records s) inputTerms (unless-told (leb (records s) inputTerms) 3 1 (omega arith) (ap (λ (r : Report). r .number) (sym (f .1) ∙ e)))),
+    λ h.
+        let told : longRule inputTerms 1 s ≡ refusal 3 1 0 = unless-tells (leb (records s) inputTerms) 3 1 (lt-leb (records s) inputTerms (h .2)) in
+        fold-tells (modulusRule p ∷ oddRule 1 s ∷ []) (longRule inputTerms 1 s) (guardRule base 1 s ∷ orderRule 1 s ∷ numberRule p 1 s ∷ []) (done (records s) 0)
+        (ap (λ (r : Report). r .number) (passed-modulus p (h .0)), (ap (λ (r : Report). r .number) (passed-odd 1 s (h .1)), (tt)))
+        (λ z. omega (arith, ap (λ (r : Report). r .number) told))
+        ∙ told,
+  )
+
+  pub check-tells-4 : (i : ℕ) → (checkOf p s ≡ refusal 4 1 i) ↔ ((isModulus p ≡ true) × (length s ≡ 2 * records s) × (records s ≤ inputTerms) × FirstOf (guardAt base s) (records s) i)
+  unfolding checkOf guardRule
+  check-tells-4 i = (
+    λ e.
+        let f =
+        fold-told 4 (modulusRule p ∷ oddRule 1 s ∷ longRule inputTerms 1 s ∷ []) (guardRule base 1 s) (orderRule 1 s ∷ numberRule p 1 s ∷ []) (done (records s) 0)
+        (modulus-other p 4 (omega arith) (λ z. omega arith), (odd-other 1 s 4 (omega arith) (λ z. omega arith), (long-other 1 s inputTerms 4 (omega arith) (λ z. omega arith), (tt))))
+        (order-other 1 s 4 (omega arith) (λ z. omega arith), (number-other 1 s p 4 (omega arith) (λ z. omega arith), (tt)))
+        (λ z. omega arith)
+        (ap (λ (r : Report). r .number) e)
+        in
+        (modulus-passed p (f .0 .0), odd-passed 1 s (f .0 .1 .0), long-passed 1 s inputTerms (f .0 .1 .1 .0), found-told (guardAt base s) 4 1 (records s) i (omega arith) (sym (f .1) ∙ e)),
+    λ h.
+        let told : guardRule base 1 s ≡ refusal 4 1 i = found-tells (guardAt base s) 4 1 (records s) i (h .3) in
+        fold-tells (modulusRule p ∷ oddRule 1 s ∷ longRule inputTerms 1 s ∷ []) (guardRule base 1 s) (orderRule 1 s ∷ numberRule p 1 s ∷ []) (done (records s) 0)
+        (ap (λ (r : Report). r .number) (passed-modulus p (h .0)), (ap (λ (r : Report). r .number) (passed-odd 1 s (h .1)), (ap (λ (r : Report). r .number) (passed-long 1 s inputTerms (h .2)), (tt))))
+        (λ z. omega (arith, ap (λ (r : Report). r .number) told))
+        ∙ told,
+  )
+
+  pub check-tells-5 : (i : ℕ) → (checkOf p s ≡ refusal 5 1 i) ↔ ((isModulus p ≡ true) × (length s ≡ 2 * records s) × (records s ≤ inputTerms) × ((i : ℕ) → i < records s → isMonomial base (wordAt s i) ≡ true) × FirstOf (orderAt s) (records s) i)
+  unfolding checkOf orderRule
+  check-tells-5 i = (
+    λ e.
+        let f =
+        fold-told 5 (modulusRule p ∷ oddRule 1 s ∷ longRule inputTerms 1 s ∷ guardRule base 1 s ∷ []) (orderRule 1 s) (numberRule p 1 s ∷ []) (done (records s) 0)
+        (modulus-other p 5 (omega arith) (λ z. omega arith), (odd-other 1 s 5 (omega arith) (λ z. omega arith), (long-other 1 s inputTerms 5 (omega arith) (λ z. omega arith), (guard-other 1 s 5 (omega arith) (λ z. omega arith), (tt)))))
+        (number-other 1 s p 5 (omega arith) (λ z. omega arith), (tt))
+        (λ z. omega arith)
+        (ap (λ (r : Report). r .number) e)
+        in
+        (modulus-passed p (f .0 .0), odd-passed 1 s (f .0 .1 .0), long-passed 1 s inputTerms (f .0 .1 .1 .0), guard-passed 1 s (f .0 .1 .1 .1 .0), found-told (orderAt s) 5 1 (records s) i (omega arith) (sym (f .1) ∙ e)),
+    λ h.
+        let told : orderRule 1 s ≡ refusal 5 1 i = found-tells (orderAt s) 5 1 (records s) i (h .4) in
+        fold-tells (modulusRule p ∷ oddRule 1 s ∷ longRule inputTerms 1 s ∷ guardRule base 1 s ∷ []) (orderRule 1 s) (numberRule p 1 s ∷ []) (done (records s) 0)
+        (ap (λ (r : Report). r .number) (passed-modulus p (h .0)), (ap (λ (r : Report). r .number) (passed-odd 1 s (h .1)), (ap (λ (r : Report). r .number) (passed-long 1 s inputTerms (h .2)), (ap (λ (r : Report). r .number) (passed-guard 1 s (h .3)), (tt)))))
+        (λ z. omega (arith, ap (λ (r : Report). r .number) told))
+        ∙ told,
+  )
+
+  pub check-tells-6 : (i : ℕ) → (checkOf p s ≡ refusal 6 1 i) ↔ ((isModulus p ≡ true) × (length s ≡ 2 * records s) × (records s ≤ inputTerms) × ((i : ℕ) → i < records s → isMonomial base (wordAt s i) ≡ true) × ((i : ℕ) → suc i < records s → wordAt s (suc i) < wordAt s i) × FirstOf (badNumberAt p s) (records s) i)
+  unfolding checkOf numberRule
+  check-tells-6 i = (
+    λ e.
+        let f =
+        fold-told 6 (modulusRule p ∷ oddRule 1 s ∷ longRule inputTerms 1 s ∷ guardRule base 1 s ∷ orderRule 1 s ∷ []) (numberRule p 1 s) ([]) (done (records s) 0)
+        (modulus-other p 6 (omega arith) (λ z. omega arith), (odd-other 1 s 6 (omega arith) (λ z. omega arith), (long-other 1 s inputTerms 6 (omega arith) (λ z. omega arith), (guard-other 1 s 6 (omega arith) (λ z. omega arith), (order-other 1 s 6 (omega arith) (λ z. omega arith), (tt))))))
+        tt
+        (λ z. omega arith)
+        (ap (λ (r : Report). r .number) e)
+        in
+        (modulus-passed p (f .0 .0), odd-passed 1 s (f .0 .1 .0), long-passed 1 s inputTerms (f .0 .1 .1 .0), guard-passed 1 s (f .0 .1 .1 .1 .0), order-passed 1 s (f .0 .1 .1 .1 .1 .0), found-told (badNumberAt p s) 6 1 (records s) i (omega arith) (sym (f .1) ∙ e)),
+    λ h.
+        let told : numberRule p 1 s ≡ refusal 6 1 i = found-tells (badNumberAt p s) 6 1 (records s) i (h .5) in
+        fold-tells (modulusRule p ∷ oddRule 1 s ∷ longRule inputTerms 1 s ∷ guardRule base 1 s ∷ orderRule 1 s ∷ []) (numberRule p 1 s) ([]) (done (records s) 0)
+        (ap (λ (r : Report). r .number) (passed-modulus p (h .0)), (ap (λ (r : Report). r .number) (passed-odd 1 s (h .1)), (ap (λ (r : Report). r .number) (passed-long 1 s inputTerms (h .2)), (ap (λ (r : Report). r .number) (passed-guard 1 s (h .3)), (ap (λ (r : Report). r .number) (passed-order 1 s (h .4)), (tt))))))
+        (λ z. omega (arith, ap (λ (r : Report). r .number) told))
+        ∙ told,
+  )
