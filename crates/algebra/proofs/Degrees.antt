@@ -1,5 +1,6 @@
 -- Largest weights of products: in each letter, and in total degree, largest degrees add.
 --
+--   largest-all       no monomial weighs more than the largest weight
 --   largest-at        no monomial that has a coefficient weighs more than the largest weight
 --   largest-bound     a bound for every monomial that has a coefficient bounds the largest weight of a normal polynomial
 --   largest-equal     equal normal polynomials have one largest weight, whatever their orders
@@ -15,9 +16,10 @@ use native.Mathlib.Omega.{arith}
 use Rattle.algebra.specs.Residues.{Same, Prime}
 use Rattle.algebra.specs.Monomials.{Monomials}
 use Rattle.algebra.specs.Orders.{Order, Weight, Weighted, Then}
-use Rattle.algebra.specs.Polynomials.{Term, Poly, only, coef, Equal, times, mul, largest, norm, Below, Normal}
+use Rattle.algebra.specs.Polynomials.{Term, Poly, only, coef, Equal, times, mul, largest, norm, All, Below, Normal}
 use Rattle.algebra.proofs.Residues.{same-eq, same-sym, same-trans}
 use Rattle.algebra.proofs.NormalForm.{
+  all-map,
   below-coef,
   lead-coef,
   norm-normal,
@@ -32,6 +34,13 @@ use Rattle.algebra.proofs.Ring.{mul-equal}
 use Rattle.algebra.proofs.Leads.{prime-positive, normal-tail, coef-number, lead-mul}
 
 module _ {K : Monomials} (w : K .Mon → ℕ) where
+  pub largest-all : (f : Poly K) → All (λ m. w m ≤ largest w f) f
+  largest-all [] = tt
+  largest-all (u ∷ f) = (
+    le-max-left (w (u .mon)) (largest w f),
+    all-map {P = λ m. w m ≤ largest w f} {Q = λ m. w m ≤ max (w (u .mon)) (largest w f)} (λ m h. le-trans h (le-max-right (w (u .mon)) (largest w f))) f (largest-all f),
+  )
+
   pub largest-at : (f : Poly K) (m : K .Mon) → (coef f m ≡ 0 → ⊥) → w m ≤ largest w f
   largest-at [] m h = absurd (h refl)
   largest-at (u ∷ f) m h = go (K .decide (u .mon) m) h (largest-at f m)

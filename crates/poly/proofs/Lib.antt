@@ -2,5 +2,6 @@
 pub mod Reports
 pub mod Faults
 pub mod Valid
+pub mod Readings
 pub mod Terms
 pub mod Parts

@@ -4,17 +4,18 @@
 --   Shaped s           a lent slice of even length that is within its number of terms
 --   Input p s          a lent slice that is Valid and within its number of terms
 --   Each P slices      every one of some lent slices has the property P
---   Accepted p ins outs      what the rules 1 to 6 ask of a call together
+--   Accepted p inputs outputs      what the rules 1 to 6 ask of a call together
 --   FirstOf t count i  i is the first of `count` terms that the test t finds at fault
---   unless-passed, passed-unless, unless-tells, at-term-passed, passed-at-term, at-term-tells      of one rule of either kind
---   NAME-passed        the report of the rule NAME is 0, so the fact that it tests holds
---   passed-NAME        the fact holds, so the rule NAME answers `none`
---   NAME-own           the report of the rule NAME has the number 0 or the rule's own
---   input-valid, valid-input      the rules 2 to 6 of an input all passed, and it is Valid and within its number of terms
---   refusals-accepted, accepted-refusals      the rules 1 to 6 all passed, and the call is Accepted
---   fold-accepted      the fold of a call that refuses nothing: it is Accepted, and the rules after 6 passed too
+--   unless-passed, passed-unless, unless-tells, unless-told, unless-other      of a rule that tests a slice as a whole
+--   found-passed, passed-found, found-tells, found-told, found-other           of a rule that tests each term
+--   NAME-passed        the report of the rule NAME has the number 0, so what it asks holds
+--   passed-NAME        what the rule NAME asks holds, so it answers `none`
+--   NAME-other         the report of the rule NAME has no number but 0 and its own
+--   shapes-passed, passed-shapes             the same of 2 and 3 over some lent slices
+--   refusals-accepted, accepted-refusals     the same of 1 to 6 over a call
+--   fold-accepted      a call whose fold refuses nothing is Accepted, and the rules after 6 passed too
 --   accepted-fold      of a call that is Accepted, the fold answers what the rules after 6 do
---   check-valid        the check passes just where p is a modulus and the slice is Valid and within 4096 terms
+--   check-passed, check-valid      the check passes just where p is a modulus and the slice is Valid and within 4096 terms
 --   check-tells-1 .. check-tells-6      each refusal of the check is told just where its rule says so and none before it is due
 use Prim.Native.Nat.{ℕ, zero, suc, _+_, _-_, _*_, _/_, _%_, _<_, _≤_}
 use mathlib.Core.Path.{_≡_, refl, sym, _∙_, ap}
@@ -376,10 +377,10 @@ module _ (p : ℕ) (inputs outputs : List Lent) where
       let shaped = each-map (λ s. Input p s) (λ s. Shaped s) (λ s f. record { even = f .valid .even; short = f .short }) inputs (a .ins) in (
         ap (λ (r : Report). r .number) (passed-modulus p (a .modulus)),
         append-passed (shapeRules (inputs ++ outputs) ++ orderRules base inputs) (numberRules p inputs)
-        (append-passed (shapeRules (inputs ++ outputs)) (orderRules base inputs)
-        (passed-shapes (inputs ++ outputs) (append-each (λ s. Shaped s) inputs outputs shaped (a .outs)))
-        (passed-orders p inputs terms))
-        (passed-numbers p inputs terms),
+            (append-passed (shapeRules (inputs ++ outputs)) (orderRules base inputs)
+            (passed-shapes (inputs ++ outputs) (append-each (λ s. Shaped s) inputs outputs shaped (a .outs)))
+            (passed-orders p inputs terms))
+            (passed-numbers p inputs terms),
       )
 
   module _ (more : List Report) (otherwise : Report) where
