@@ -5,3 +5,4 @@ pub mod Valid
 pub mod Readings
 pub mod Terms
 pub mod Parts
+pub mod Determined
