@@ -18,21 +18,18 @@ use native.Mathlib.Omega.{arith}
 use lib.Dec.{eqb, leb}
 use borrow.Author.Tests.{leb-true, le-leb, eqb-true, eqb-false, eq-eqb, ne-eqb}
 use Rattle.algebra.specs.Residues.{Same, Prime, isPrime, inverse, divides, first, pick}
+use Rattle.algebra.proofs.Tests.{both-true}
 use Rattle.algebra.proofs.Residues.{same-eq, same-refl, same-sym, same-trans, same-mod, same-multiple, same-mul, same-mul-left, same-cancel, same-below, same-decided}
 use Rattle.algebra.proofs.Scan.{first-from, first-hit, first-miss, first-unique}
 
 -- The test
-
-both-pass : (a b : Bool) → pick a b false ≡ true → (a ≡ true) × (b ≡ true)
-both-pass true b e = (refl, e)
-both-pass false b e = absurd (let z : _≡_ {A = ℕ} 0 1 = cc in omega arith)
 
 pub prime-of-test : {p : ℕ} → isPrime p ≡ true → Prime p
 unfolding isPrime
 prime-of-test {p} e = record { two = two; only = only }
   where
     parts : (leb 2 p ≡ true) × (eqb (first (divides p) 2 (p - 2)) p ≡ true)
-    parts = both-pass _ _ e
+    parts = both-true _ _ e
 
     two : 2 ≤ p
     two = leb-true _ _ (parts .0)

@@ -16,6 +16,7 @@ use native.Mathlib.Decide.{decLt}
 use native.Mathlib.Numerals.{add-one}
 use native.Mathlib.Omega.{arith}
 use Rattle.algebra.specs.Residues.{first, pick}
+use Rattle.algebra.proofs.Tests.{never}
 
 -- One step
 
@@ -87,19 +88,16 @@ first-miss t i (suc n) h k = pick-miss t (t i) refl (first-miss t (suc i) n) h k
 
 -- Nothing else does
 
-both : {b : Bool} → b ≡ true → b ≡ false → ⊥
-both e f = let z : _≡_ {A = ℕ} 0 1 = cc in omega arith
-
 pub first-unique : (t : ℕ → Bool) (i n k : ℕ) → i ≤ k → k ≤ i + n → ((j : ℕ) → i ≤ j → j < k → t j ≡ false) → (t k ≡ true) ⊎ (k ≡ i + n) → first t i n ≡ k
 first-unique t i n k from within before end =
     elim (decLt (first t i n) k) [
-      | yes h ↦ absurd (both (first-hit t i n (omega arith)) (before _ (first-from t i n) h))
+      | yes h ↦ absurd (never (first-hit t i n (omega arith)) (before _ (first-from t i n) h))
       | no h ↦ elim (decLt k (first t i n)) [ yes l ↦ absurd (not-later l) | no l ↦ omega arith ]
     ]
   where
     not-later : k < first t i n → ⊥
     not-later h =
         elim end [
-          | inl e ↦ both e (first-miss t i n from h)
+          | inl e ↦ never e (first-miss t i n from h)
           | inr e ↦ let w : first t i n ≤ i + n = first-within t i n in omega arith
         ]

@@ -7,7 +7,7 @@
 --   inverse p a     the first x from 1 to p − 1 with a · x ≡ 1 modulo p; p if there is none
 use Prim.Native.Nat.{ℕ, zero, suc, _*_, _-_, _%_, _≤_, _∣_}
 use mathlib.Core.Path.{_≡_}
-use mathlib.Core.Bool.{Bool, true, false}
+use mathlib.Core.Bool.{Bool, true, false, _&&_}
 use mathlib.Core.Logic.{_⊎_}
 use lib.Dec.{eqb, leb}
 
@@ -33,7 +33,7 @@ divides n d = eqb (n % d) 0
 
 -- from 2 on, the first divisor of p is p itself
 unfoldable pub isPrime : ℕ → Bool
-isPrime p = pick (leb 2 p) (eqb (first (divides p) 2 (p - 2)) p) false
+isPrime p = leb 2 p && eqb (first (divides p) 2 (p - 2)) p
 
 unfoldable pub inverse : ℕ → ℕ → ℕ
 inverse p a = first (λ x. eqb (a * x % p) 1) 1 (p - 1)

@@ -26,7 +26,8 @@ use Rattle.algebra.proofs.Primes.{below-not-zero, inverse-law, inverse-below}
 use Rattle.field.specs.declared.Balance.{Balance}
 use Rattle.field.specs.Moduli.{limit, isModulus, modulusOf}
 use Rattle.field.specs.Answers.{orRefused, value, noValue, sumOf, productOf, inverseOf, balancedValue, balancedOf, residueValue, residueOf}
-use Rattle.field.proofs.Moduli.{both-true, modulus-prime, modulus-within, modulus-of, modulus-passed}
+use Rattle.algebra.proofs.Tests.{both-true}
+use Rattle.field.proofs.Moduli.{modulus-prime, modulus-within, modulus-of, modulus-passed}
 use Rattle.field.proofs.Signs.{subtracted}
 
 -- Reply 0

@@ -1,6 +1,5 @@
 -- Laws of moduli.
 --
---   both-true                        a test of two parts passes where both pass
 --   modulus-prime, modulus-within    a modulus is a prime, and at most the limit
 --   modulus-of                       and a prime up to the limit is a modulus
 --   modulus-test                     the reply r is 0 just where p is a modulus, as a test
@@ -12,12 +11,9 @@ use native.Mathlib.Omega.{arith}
 use lib.Dec.{leb, eqb}
 use borrow.Author.Tests.{leb-true, le-leb}
 use Rattle.algebra.specs.Residues.{Prime, isPrime, pick}
+use Rattle.algebra.proofs.Tests.{both-true}
 use Rattle.algebra.proofs.Primes.{prime-of-test, test-of-prime}
 use Rattle.field.specs.Moduli.{limit, isModulus, modulusOf}
-
-pub both-true : (a b : Bool) → (a && b) ≡ true → (a ≡ true) × (b ≡ true)
-both-true true b e = (refl, e)
-both-true false b e = absurd (let z : _≡_ {A = ℕ} 0 1 = cc in omega arith)
 
 pub modulus-prime : {p : ℕ} → isModulus p ≡ true → Prime p
 unfolding isModulus

@@ -1,6 +1,5 @@
 -- Laws of the fields of a word, for any width w and any number k of fields, by induction on the fields.
 --
---   both-true, both, same-test, both-swap   of tests joined by `&&`; two tests that pass together are equal
 --   Held w k m              a field holds each exponent of m, the guard bit perhaps used
 --   fits-held, product-held, exponents-held   what fits is held, the product of two that fit is, and so are a word's exponents
 --   fits-letters            what fits has no letter with an exponent over the largest
@@ -32,27 +31,8 @@ use lib.Dec.{leb, ltb, eqb}
 use borrow.Author.Tests.{leb-true, ltb-true, eqb-true, le-leb, lt-leb, lt-ltb, eq-eqb, ne-eqb}
 use Rattle.algebra.specs.Monomials.{Letters, exponent}
 use Rattle.algebra.specs.Orders.{below, level, above, Then, Lex, compareNumbers}
+use Rattle.algebra.proofs.Tests.{both-true, both, both-swap, same-test}
 use Rattle.monomial.specs.Layout.{largestExponent, exponentsOf, wordOf, fits, divides, over}
-
--- Tests
-
-pub both-true : (a b : Bool) → (a && b) ≡ true → (a ≡ true) × (b ≡ true)
-both-true true b e = (refl, e)
-both-true false b e = absurd (false≢true e)
-
-pub both : {a b : Bool} → a ≡ true → b ≡ true → (a && b) ≡ true
-both e f = λ i. e i && f i
-
-pub same-test : (a b : Bool) → (a ≡ true → b ≡ true) → (b ≡ true → a ≡ true) → a ≡ b
-same-test true b f g = sym (f refl)
-same-test false true f g = g refl
-same-test false false f g = refl
-
-pub both-swap : (a b c d : Bool) → (a && b && (c && d)) ≡ (a && c && (b && d))
-both-swap true b true d = refl
-both-swap true true false d = refl
-both-swap true false false d = refl
-both-swap false b c d = refl
 
 -- Digits: x · b + y with y below b
 

@@ -26,9 +26,11 @@ use borrow.Author.Tests.{ltb-true, lt-ltb}
 use Rattle.algebra.specs.Monomials.{Monomials, Letters}
 use Rattle.algebra.specs.Orders.{Order, Lex}
 use Rattle.algebra.specs.Residues.{pick}
+use Rattle.algebra.proofs.Tests.{both-true, both, same-test}
 use Rattle.monomial.specs.Layout.{Layout, exponentsOf, wordOf, fits, isMonomial, divides, over, dividesOf}
-use Rattle.monomial.specs.Answers.{done, refused, productOf, quotientOf}
-use Rattle.monomial.proofs.Fields.{both-true, both, same-test, Held, fits-held, fits-one, product-held, word-bound, exponents-word, word-exponents, word-one, word-mul, word-less, divides-fits, factor-fits, divides-mul, over-mul, over-fits, divides-quotient}
+use Rattle.field.specs.Answers.{value, noValue}
+use Rattle.monomial.specs.Answers.{productOf, quotientOf}
+use Rattle.monomial.proofs.Fields.{Held, fits-held, fits-one, product-held, word-bound, exponents-word, word-exponents, word-one, word-mul, word-less, divides-fits, factor-fits, divides-mul, over-mul, over-fits, divides-quotient}
 
 module _ (l : Layout) where
   abbrev pub read : ℕ → Letters (l .count) .Mon
@@ -112,11 +114,11 @@ module _ (l : Layout) where
         let r = both-true (isMonomial l m) (isMonomial l n) (s .0) in
         sym (sum-monomial (r .0) (r .1)) ∙ s .1)
 
-    pub product-sum : m < room → n < room → productOf l m n ≡ pick (isMonomial l m && isMonomial l n && isMonomial l (m + n)) (done (m + n)) (refused 9)
-    product-sum h g = λ i. pick (product-test h g i) (done (sum-word h g i)) (refused 9)
+    pub product-sum : m < room → n < room → productOf l m n ≡ pick (isMonomial l m && isMonomial l n && isMonomial l (m + n)) (value (m + n)) (noValue 9)
+    product-sum h g = λ i. pick (product-test h g i) (value (sum-word h g i)) (noValue 9)
 
-    pub product-monomials : isMonomial l m ≡ true → isMonomial l n ≡ true → productOf l m n ≡ pick (isMonomial l (m + n)) (done (m + n)) (refused 9)
-    product-monomials h g = λ i. pick (sym (sum-monomial h g) i) (done (sum-word (monomial-below m h) (monomial-below n g) i)) (refused 9)
+    pub product-monomials : isMonomial l m ≡ true → isMonomial l n ≡ true → productOf l m n ≡ pick (isMonomial l (m + n)) (value (m + n)) (noValue 9)
+    product-monomials h g = λ i. pick (sym (sum-monomial h g) i) (value (sum-word (monomial-below m h) (monomial-below n g) i)) (noValue 9)
 
   module _ (m n : ℕ) where
     pub divides-monomials : dividesOf l m n ≡ true → (isMonomial l m ≡ true) × (isMonomial l n ≡ true)
@@ -148,11 +150,11 @@ module _ (l : Layout) where
     pub divides-le : dividesOf l m n ≡ true → m ≤ n
     divides-le d = omega (arith, quotient-word d)
 
-    pub quotient-difference : quotientOf l n m ≡ pick (dividesOf l m n) (done (n - m)) (refused 12)
+    pub quotient-difference : quotientOf l n m ≡ pick (dividesOf l m n) (value (n - m)) (noValue 12)
     quotient-difference = go (dividesOf l m n) refl
       where
-        go : (t : Bool) → dividesOf l m n ≡ t → pick t (done (write (over (l .count) (read n) (read m)))) (refused 12) ≡ pick t (done (n - m)) (refused 12)
-        go true d = let e : write (over (l .count) (read n) (read m)) ≡ n - m = omega (arith, quotient-word d) in λ i. done (e i)
+        go : (t : Bool) → dividesOf l m n ≡ t → pick t (value (write (over (l .count) (read n) (read m)))) (noValue 12) ≡ pick t (value (n - m)) (noValue 12)
+        go true d = let e : write (over (l .count) (read n) (read m)) ≡ n - m = omega (arith, quotient-word d) in λ i. value (e i)
         go false d = refl
 
   pub sum-divides : (m n f : ℕ) → isMonomial l m ≡ true → isMonomial l n ≡ true → isMonomial l f ≡ true → dividesOf l (m + n) f ≡ divides (l .count) (times (read m) (read n)) (read f)

@@ -14,8 +14,9 @@ use native.Mathlib.Omega.{arith}
 use lib.Bits.{bitAnd, bitOr, or-disjoint}
 use lib.Dec.{eqb, ltb}
 use borrow.Author.Tests.{eqb-true}
+use Rattle.algebra.proofs.Tests.{both-true, both-swap}
 use Rattle.monomial.specs.Layout.{Layout, exponentsOf, fits, isMonomial, divides, dividesOf}
-use Rattle.monomial.proofs.Fields.{both-true, both-swap, or-below, either-test, guards, guards-test, guards-cover, borrow-test}
+use Rattle.monomial.proofs.Fields.{or-below, either-test, guards, guards-test, guards-cover, borrow-test}
 use Rattle.monomial.proofs.Laws.{read, monomial-below, monomial-fits, monomial-test, monomial-word, divides-exponents}
 
 module _ (v k : ℕ) where

@@ -1,6 +1,5 @@
 -- What each call answers: a number, 0 for done, and a value.
 --
---   done v, refused r    the number 0 with the value v; the number r with the value 0
 --   packOf l m           packing the exponents of m: 4 where one is over the largest
 --   listed k m           the k exponents of m as a list
 --   unpackOf l word      the exponents of a word: 4, and zeros, where a guard bit is set
@@ -12,20 +11,15 @@ use Prim.Native.Nat.{ℕ, zero, suc}
 use mathlib.Core.List.{List, [], _∷_}
 use Rattle.algebra.specs.Monomials.{Letters}
 use Rattle.algebra.specs.Residues.{pick}
+use Rattle.field.specs.declared.Value.{Value}
+use Rattle.field.specs.Answers.{value, noValue}
 use Rattle.monomial.specs.Layout.{Layout, exponentsOf, wordOf, fits, isMonomial, over, dividesOf}
-use Rattle.monomial.specs.declared.Value.{Value}
 use Rattle.monomial.specs.declared.Exponents.{Exponents}
 use Rattle.monomial.specs.declared.Product.{Product}
 use Rattle.monomial.specs.declared.Quotient.{Quotient}
 
-abbrev pub done : ℕ → Value
-done v = record { number = 0; value = v }
-
-abbrev pub refused : ℕ → Value
-refused r = record { number = r; value = 0 }
-
 abbrev pub packOf : (l : Layout) → Letters (l .count) .Mon → Value
-packOf l m = pick (fits (l .width) (l .count) m) (done (wordOf (l .width) (l .count) m)) (refused 4)
+packOf l m = pick (fits (l .width) (l .count) m) (value (wordOf (l .width) (l .count) m)) (noValue 4)
 
 -- from the first letter's on
 abbrev pub listed : (k : ℕ) → Letters k .Mon → List ℕ
@@ -43,18 +37,18 @@ unpackOf l word =
 abbrev pub productOf : Layout → ℕ → ℕ → Value
 productOf l m n =
     let product = Letters (l .count) .mul (exponentsOf (l .width) (l .count) m) (exponentsOf (l .width) (l .count) n) in
-    pick (fits (l .width) (l .count) product) (done (wordOf (l .width) (l .count) product)) (refused 9)
+    pick (fits (l .width) (l .count) product) (value (wordOf (l .width) (l .count) product)) (noValue 9)
 
 -- a word that is no monomial has no quotient
 abbrev pub quotientOf : Layout → ℕ → ℕ → Value
 quotientOf l n m =
     let quotient = over (l .count) (exponentsOf (l .width) (l .count) n) (exponentsOf (l .width) (l .count) m) in
-    pick (dividesOf l m n) (done (wordOf (l .width) (l .count) quotient)) (refused 12)
+    pick (dividesOf l m n) (value (wordOf (l .width) (l .count) quotient)) (noValue 12)
 
 abbrev pub productValue : Product → Value
-productValue (Product.Word w) = done w
-productValue Product.TooBig = refused 9
+productValue (Product.Word w) = value w
+productValue Product.TooBig = noValue 9
 
 abbrev pub quotientValue : Quotient → Value
-quotientValue (Quotient.Word w) = done w
-quotientValue Quotient.NoQuotient = refused 12
+quotientValue (Quotient.Word w) = value w
+quotientValue Quotient.NoQuotient = noValue 12

@@ -3,16 +3,13 @@ ghost use mathlib.Core.Path.{_≡_};
 ghost use Rattle.monomial.specs.Layout.{base, isMonomial, exponentOf, dividesOf};
 ghost use Rattle.monomial.specs.Answers.{packOf, unpackOf, productOf, quotientOf, productValue, quotientValue};
 
+use field::Value;
+
 // The guard bit of each field.
 const GUARDS: u64 = 0x8000800080008000;
 
 // The largest exponent.
 const LARGEST: u64 = 32767;
-
-pub struct Value {
-    pub number: u64,
-    pub value: u64,
-}
 
 pub struct Exponents {
     pub number: u64,

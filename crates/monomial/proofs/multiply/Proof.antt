@@ -6,7 +6,7 @@ use borrow.Author.Needs.{needs}
 use borrow.Author.Tests.{not-true, not-false}
 use Rattle.algebra.specs.Residues.{pick}
 use Rattle.monomial.specs.Layout.{base, isMonomial}
-use Rattle.monomial.specs.Answers.{done, refused}
+use Rattle.field.specs.Answers.{value, noValue}
 use Rattle.monomial.proofs.Laws.{sum-below, product-sum, product-monomials}
 use Rattle.monomial.proofs.Masks.{either-monomial, both-monomials}
 use Rattle.monomial.proofs.multiply.Statement.{statement}
@@ -20,7 +20,7 @@ returns c =
     let m = c .before .before .args .m in
     let n = c .before .before .args .n in
     let e = sym (either-monomial 15 4 m n) ∙ sym (c .before .is-monomial .ensures) ∙ not-true (c .before .is-monomial .result) (c .if1 .taken) in
-    sym (product-sum base m n (c .before .before .fits .m .fits) (c .before .before .fits .n .fits) ∙ ap (λ t. pick (t && isMonomial base (m + n)) (done (m + n)) (refused 9)) e)
+    sym (product-sum base m n (c .before .before .fits .m .fits) (c .before .before .fits .n .fits) ∙ ap (λ t. pick (t && isMonomial base (m + n)) (value (m + n)) (noValue 9)) e)
 
 monomials : (c : tie.Else1) → (isMonomial base (c .before .before .args .m) ≡ true) × (isMonomial base (c .before .before .args .n) ≡ true)
 monomials c =
