@@ -2,7 +2,6 @@
 ghost use mathlib.Core.Path.{_≡_};
 ghost use Rattle.monomial.specs.Layout.{base, isMonomial, exponentOf, dividesOf};
 ghost use Rattle.monomial.specs.Answers.{packOf, unpackOf, productOf, quotientOf, productValue, quotientValue};
-
 use field::Value;
 
 // The guard bit of each field.

@@ -1,7 +1,6 @@
 -- Readings of words: a slice as terms whose monomials are words, such terms as words, and both beside the polynomial meant.
 --
 --   termW s i           record i, its monomial a word
---   span s i n          the n records from i on, their monomials words
 --   flat f              the words of such terms
 --   codedPoly l f       a polynomial with the word of each monomial in its place
 --   decodedPoly l f     the other way: the exponents of each word in its place
@@ -36,16 +35,12 @@ use Rattle.algebra.specs.Polynomials.{Term, term, Poly, largest, All, Below, Fa
 use Rattle.algebra.proofs.Degrees.{largest-all}
 use Rattle.monomial.specs.Layout.{Layout, base, isMonomial, fits, wordOf, exponentsOf, exponentOf}
 use Rattle.monomial.proofs.Laws.{read, write, fit, monomial-fits, monomial-word, word-monomial, word-read, coding}
-use Rattle.poly.specs.Words.{records, wordAt, numberAt, termAt, terms, polyOf, wordsOf}
+use Rattle.poly.specs.Words.{records, wordAt, numberAt, termAt, terms, span, polyOf, wordsOf}
 use Rattle.poly.specs.Services.{measureOf}
 use Rattle.poly.proofs.Valid.{Valid}
 
 abbrev pub termW : List ℕ → ℕ → Term Numbers
 termW s i = term (wordAt s i) (numberAt s i)
-
-abbrev pub span : List ℕ → ℕ → ℕ → Poly Numbers
-span s i zero = []
-span s i (suc n) = termW s i ∷ span s (suc i) n
 
 abbrev pub flat : Poly Numbers → List ℕ
 flat [] = []
