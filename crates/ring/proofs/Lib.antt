@@ -1,4 +1,5 @@
 -- Laws of the ring calls that more than one function needs.
 pub mod Records
+pub mod Rooms
 pub mod Ways
 pub mod Taking

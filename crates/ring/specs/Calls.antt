@@ -15,16 +15,21 @@ use Rattle.algebra.specs.Polynomials.{Poly, mul, negated, largest, norm}
 use Rattle.monomial.specs.Layout.{base, largestExponent}
 use Rattle.poly.specs.Words.{records, polyOf}
 use Rattle.poly.specs.Reports.{refusal}
-use Rattle.poly.specs.Rules.{Lent, inputTerms, roomTerms, refusals, workRule}
+use Rattle.poly.specs.Rules.{Lent, inputTerms, roomTerms, orderRules, numberRules, refusals, workRule}
 use Rattle.poly.specs.declared.report.Report.{Report}
 use Rattle.ring.specs.Outcomes.{Outcome, outcome, unlessRefused, cleared, inRoom}
 
+-- two slices lent as inputs
+abbrev pub inputs : List ℕ → List ℕ → List Lent
+inputs a b = record { operand = 1; words = a; most = inputTerms } ∷ record { operand = 2; words = b; most = inputTerms } ∷ []
+
+-- 4, 5 and 6 of two inputs
+abbrev pub termRules : ℕ → List ℕ → List ℕ → List Report
+termRules p a b = orderRules base (inputs a b) ++ numberRules p (inputs a b)
+
 -- the refusals 1 to 6 of a call with two inputs and one room
 abbrev pub twoInputs : ℕ → List ℕ → List ℕ → List ℕ → List Report
-twoInputs p a b room =
-    refusals base p
-    (record { operand = 1; words = a; most = inputTerms } ∷ record { operand = 2; words = b; most = inputTerms } ∷ [])
-    (record { operand = 3; words = room; most = roomTerms } ∷ [])
+twoInputs p a b room = refusals base p (inputs a b) (record { operand = 3; words = room; most = roomTerms } ∷ [])
 
 unfoldable pub sumOf : ℕ → List ℕ → List ℕ → List ℕ → Outcome
 sumOf p a b room =

@@ -1,2 +1,4 @@
 // Sum, difference and product of polynomials, and the tree of rows that division stands on too.
+pub mod inputs;
+pub mod room;
 pub mod tree;
