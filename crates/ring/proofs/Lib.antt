@@ -3,3 +3,4 @@ pub mod Records
 pub mod Rooms
 pub mod Ways
 pub mod Taking
+pub mod Transport
