@@ -3,4 +3,5 @@ pub mod Records
 pub mod Rooms
 pub mod Ways
 pub mod Taking
+pub mod Planting
 pub mod Transport

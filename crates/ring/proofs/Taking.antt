@@ -110,7 +110,7 @@ module _ (rows cols : List ℕ) where
   unless-positive (suc k) f h = refl
 
   -- the term of a row
-  abbrev rowTerm : ℕ → Term Numbers
+  abbrev pub rowTerm : ℕ → Term Numbers
   rowTerm i = term (wordAt rows i) (numberAt rows i)
 
   -- all products of a row with the columns after one
@@ -118,12 +118,12 @@ module _ (rows cols : List ℕ) where
   later i column = times (rowTerm i) (span cols (suc column) (records cols - suc column))
 
   -- what row i waits for, by its leaf
-  pending-at : (w : List ℕ) (i tag : ℕ) → numberAt w (records rows + i) ≡ tag → 0 < wordAt w (records rows + i) → pending rows cols w i ≡ times (rowTerm i) (span cols (columnOf tag) (records cols - columnOf tag))
+  pub pending-at : (w : List ℕ) (i tag : ℕ) → numberAt w (records rows + i) ≡ tag → 0 < wordAt w (records rows + i) → pending rows cols w i ≡ times (rowTerm i) (span cols (columnOf tag) (records cols - columnOf tag))
   pending-at w i tag e h =
       unless-positive (wordAt w (records rows + i)) _ h
       ∙ ap (λ x. times (rowTerm i) (span cols (columnOf x) (records cols - columnOf x))) e
 
-  pending-empty : (w : List ℕ) (i : ℕ) → wordAt w (records rows + i) ≡ 0 → pending rows cols w i ≡ []
+  pub pending-empty : (w : List ℕ) (i : ℕ) → wordAt w (records rows + i) ≡ 0 → pending rows cols w i ≡ []
   pending-empty w i e =
       ap (λ x. unlessEmpty x (times (rowTerm i) (span cols (columnOf (numberAt w (records rows + i))) (records cols - columnOf (numberAt w (records rows + i)))))) e
 

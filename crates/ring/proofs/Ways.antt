@@ -60,7 +60,7 @@ beside-from i h = omega (arith, beside-place i)
 
 module _ (n : ℕ) where
   -- a record that holds still holds where neither it nor a child of it was written
-  holds-other : (w : List ℕ) (x a b j : ℕ) → (j ≡ x → ⊥) → (j ≡ x / 2 → ⊥) → Holds w j → Holds (put w x a b) j
+  pub holds-other : (w : List ℕ) (x a b j : ℕ) → (j ≡ x → ⊥) → (j ≡ x / 2 → ⊥) → Holds w j → Holds (put w x a b) j
   holds-other w x a b j n m h =
       let at : (y : ℕ) → (y ≡ x → ⊥) → (wordAt (put w x a b) y ≡ wordAt w y) × (numberAt (put w x a b) y ≡ numberAt w y) = put-other w x a b in
       let here = at j n in
@@ -112,7 +112,7 @@ module _ (n : ℕ) where
     pub second : wordAt w (beside i) ≤ a
     pub copies : ((a ≡ wordAt w i) × (b ≡ numberAt w i)) ⊎ ((a ≡ wordAt w (beside i)) × (b ≡ numberAt w (beside i)))
 
-  best-holds : (w : List ℕ) (i a b : ℕ) → 1 < i → 2 * (i / 2) + 1 < length w → Best w i a b → Holds (put w (i / 2) a b) (i / 2)
+  pub best-holds : (w : List ℕ) (i a b : ℕ) → 1 < i → 2 * (i / 2) + 1 < length w → Best w i a b → Holds (put w (i / 2) a b) (i / 2)
   best-holds w i a b h l g = go (children i) (g .copies)
     where
       w′ : List ℕ

@@ -13,14 +13,14 @@
 --   Live                  all that the tree's functions ask for
 --   count m f             how many terms of f stand at the monomial m
 --   Above, Settled        the way from a record to the root; a tree that holds but on such a way
---   Greater, Next, Climbed, Taken    what the functions promise
+--   Greater, Next, Climbed, Taken, Planted, Built, Started    what the functions promise
 use Prim.Native.Nat.{ℕ, zero, suc, _+_, _-_, _*_, _/_, _%_, _^_, _<_, _≤_}
 use mathlib.Core.Path.{_≡_}
 use mathlib.Core.List.{List, [], _∷_, _++_}
 use mathlib.Core.Logic.{_⊎_}
 use lib.ListN.{length}
 use Rattle.algebra.specs.Monomials.{Numbers}
-use Rattle.algebra.specs.Polynomials.{term, Poly, only, Equal, times}
+use Rattle.algebra.specs.Polynomials.{term, Poly, only, Equal, times, mul}
 use Rattle.poly.specs.Words.{records, wordAt, numberAt, span}
 use Rattle.ring.specs.declared.tree.Node.{Node}
 
@@ -126,3 +126,22 @@ pub record Taken (p : ℕ) (rows cols : List ℕ) (k : ℕ) (w w′ : List ℕ) 
   pub sums : Equal p (left rows cols w 0 (records rows)) (term (k - 1) r ∷ left rows cols w′ 0 (records rows))
   pub counts : (m : ℕ) → (m ≡ k - 1 → ⊥) → count m (left rows cols w 0 (records rows)) ≡ count m (left rows cols w′ 0 (records rows))
   pub lower : ((i : ℕ) → suc i < records cols → wordAt cols (suc i) < wordAt cols i) → wordAt w 1 ≤ k → wordAt w′ 1 < k
+
+-- the leaves of the first n rows wait for the product with a word
+pub record Planted (rows : List ℕ) (word : ℕ) (w : List ℕ) (n : ℕ) (w′ : List ℕ) : Type 0 where
+  pub as-long : length w′ ≡ length w
+  pub within : n ≤ records rows
+  pub keyed : (i : ℕ) → i < n → wordAt w′ (records rows + i) ≡ wordAt rows i + word + 1
+  pub tagged : (i : ℕ) → i < n → numberAt w′ (records rows + i) ≡ i * 2 ^ 32
+
+-- the records from j to n − 1 hold, and the leaves are as they were
+pub record Built (n : ℕ) (w : List ℕ) (j : ℕ) (w′ : List ℕ) : Type 0 where
+  pub as-long : length w′ ≡ length w
+  pub holds : (i : ℕ) → j ≤ i → i < n → Holds w′ i
+  pub leaves : (y : ℕ) → n ≤ y → (wordAt w′ y ≡ wordAt w y) × (numberAt w′ y ≡ numberAt w y)
+
+-- every row waits for its product with every column
+pub record Started (rows cols w w′ : List ℕ) : Type 0 where
+  pub as-long : length w′ ≡ length w
+  pub live : Live rows cols w′
+  pub whole : left rows cols w′ 0 (records rows) ≡ mul (span rows 0 (records rows)) (span cols 0 (records cols))

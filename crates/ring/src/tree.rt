@@ -5,7 +5,7 @@ ghost use Prim.Native.Nat.{ℕ, _*_, _-_, _<_, _≤_, _^_};
 ghost use lib.ListN.{length};
 ghost use Rattle.field.specs.Moduli.{limit};
 ghost use Rattle.poly.specs.Words.{records, wordAt};
-ghost use Rattle.ring.specs.Tree.{Live, Sides, Settled, Greater, Next, Climbed, Taken};
+ghost use Rattle.ring.specs.Tree.{Live, Sides, Settled, Greater, Next, Climbed, Taken, Planted, Built, Started};
 
 // What one row counts in a tag: the columns lie below.
 const ROW: u64 = 0x100000000;
@@ -36,6 +36,54 @@ pub fn take(p: u64, rows: &[u64], cols: &[u64], work: &mut [u64], k: u64) -> u64
         at = climb(work, count, count + row, next.key, next.tag, k);
     }
     sum
+}
+
+// Lets every row wait for its product with the first column.
+pub fn start(rows: &[u64], cols: &[u64], work: &mut [u64])
+    requires { ⌜ (0 < records (now cols)) × (records (now rows) < 2 ^ 32) × (4 * records (now rows) ≤ length (now work)) ⌝ }
+    requires { ⌜ ((i : ℕ) → i < records (now rows) → wordAt (now rows) i < 2 ^ 63) × (wordAt (now cols) 0 < 2 ^ 63) ⌝ }
+    ensures { λ r. ⌜ Started (now (rows .entry)) (now (cols .entry)) (now (work .entry)) (now (work .exit)) ⌝ }
+{
+    let count = rows.len() / 2;
+    plant(rows, cols[0], work);
+    build(work, count);
+}
+
+// Writes the leaves of all rows at the first column, whose word is given.
+fn plant(rows: &[u64], first: u64, work: &mut [u64])
+    requires { ⌜ (records (now rows) < 2 ^ 32) × (4 * records (now rows) ≤ length (now work)) × (first < 2 ^ 63) × ((i : ℕ) → i < records (now rows) → wordAt (now rows) i < 2 ^ 63) ⌝ }
+    ensures { λ r. ⌜ Planted (now (rows .entry)) first (now (work .entry)) (records (now (rows .entry))) (now (work .exit)) ⌝ }
+{
+    let count = rows.len() / 2;
+    let mut i = 0;
+    while i < count {
+        let leaf = count + i;
+        work[2 * leaf] = rows[2 * i] + first + 1;
+        work[2 * leaf + 1] = (i as u64) * ROW;
+        i += 1;
+    }
+}
+
+// Makes every record above the leaves a copy of its greater child, from the last one to the root.
+fn build(work: &mut [u64], count: usize)
+    requires { ⌜ 4 * count ≤ length (now work) ⌝ }
+    ensures { λ r. ⌜ Built count (now (work .entry)) 1 (now (work .exit)) ⌝ }
+{
+    let mut at = count;
+    while 1 < at {
+        at -= 1;
+        let first = Node {
+            key: work[2 * (2 * at)],
+            tag: work[2 * (2 * at) + 1],
+        };
+        let second = Node {
+            key: work[2 * (2 * at + 1)],
+            tag: work[2 * (2 * at + 1) + 1],
+        };
+        let up = better(first, second);
+        work[2 * at] = up.key;
+        work[2 * at + 1] = up.tag;
+    }
 }
 
 // The record of a row after the one at a column.
