@@ -37,7 +37,7 @@ use Rattle.monomial.specs.Layout.{Layout, base, isMonomial, fits, wordOf, expon
 use Rattle.monomial.proofs.Laws.{read, write, fit, monomial-fits, monomial-word, word-monomial, word-read, coding}
 use Rattle.poly.specs.Words.{records, wordAt, numberAt, termAt, terms, span, polyOf, wordsOf}
 use Rattle.poly.specs.Services.{measureOf}
-use Rattle.poly.proofs.Valid.{Valid}
+use Rattle.poly.specs.Valid.{Valid}
 
 abbrev pub termW : List ℕ → ℕ → Term Numbers
 termW s i = term (wordAt s i) (numberAt s i)

@@ -1,6 +1,5 @@
 -- Slices that pass: what the rules 1 to 8 ask, and what a report that refuses nothing says of the slices lent.
 --
---   Valid p s          a slice that is a polynomial modulo p: whole records, monomial words that fall, coefficients 1 to p − 1
 --   Shaped s           a lent slice of even length that is within its number of terms
 --   Input p s          a lent slice that is Valid and within its number of terms
 --   Each P slices      every one of some lent slices has the property P
@@ -55,6 +54,7 @@ use Rattle.poly.specs.Rules.{
   refusals,
 }
 use Rattle.poly.specs.Services.{asInput, checkOf}
+use Rattle.poly.specs.Valid.{Valid}
 use Rattle.poly.specs.declared.report.Report.{Report}
 use Rattle.poly.proofs.Reports.{
   or-else-next,
@@ -68,12 +68,6 @@ use Rattle.poly.proofs.Reports.{
   fold-tells,
   fold-told,
 }
-
-pub record Valid (p : ℕ) (s : List ℕ) : Type 0 where
-  pub even : length s ≡ 2 * records s
-  pub monomials : (i : ℕ) → i < records s → isMonomial base (wordAt s i) ≡ true
-  pub falls : (i : ℕ) → suc i < records s → wordAt s (suc i) < wordAt s i
-  pub numbers : (i : ℕ) → i < records s → (0 < numberAt s i) × (numberAt s i < p)
 
 pub record Shaped (s : Lent) : Type 0 where
   pub even : length (s .words) ≡ 2 * records (s .words)

@@ -2,4 +2,5 @@
 pub mod Words
 pub mod Reports
 pub mod Rules
+pub mod Valid
 pub mod Services

@@ -4,4 +4,6 @@ pub mod Rooms
 pub mod Ways
 pub mod Taking
 pub mod Planting
+pub mod Filling
+pub mod Bursts
 pub mod Transport

@@ -44,11 +44,16 @@ differenceOf p a b room =
 abbrev pub burstAt : Poly (Letters 4) → Poly (Letters 4) → ℕ
 burstAt f g = first (λ v. ltb (largestExponent 16) (largest (exponent 4 v) f + largest (exponent 4 v) g)) 0 4
 
-unfoldable pub productOf : ℕ → List ℕ → List ℕ → List ℕ → List ℕ → Outcome
-productOf p a b room work =
+-- what a product does where none of 1 to 8 is due
+unfoldable pub multiplied : ℕ → List ℕ → List ℕ → List ℕ → List ℕ → Outcome
+multiplied p a b room work =
     let f = polyOf base a in
     let g = polyOf base b in
-    unlessRefused (twoInputs p a b room ++ (workRule (4 * min (records a) (records b)) work ∷ [])) room work
-    (pick (ltb (burstAt f g) 4)
+    pick (ltb (burstAt f g) 4)
     (outcome (refusal 9 0 0) (cleared room) (cleared work))
-    (inRoom (norm (Lex 4) p (mul f g)) room work))
+    (inRoom (norm (Lex 4) p (mul f g)) room work)
+
+unfoldable pub productOf : ℕ → List ℕ → List ℕ → List ℕ → List ℕ → Outcome
+productOf p a b room work =
+    unlessRefused (twoInputs p a b room ++ (workRule (4 * min (records a) (records b)) work ∷ [])) room work
+    (multiplied p a b room work)

@@ -13,14 +13,15 @@
 --   Live                  all that the tree's functions ask for
 --   count m f             how many terms of f stand at the monomial m
 --   Above, Settled        the way from a record to the root; a tree that holds but on such a way
---   Greater, Next, Climbed, Taken, Planted, Built, Started    what the functions promise
+--   Greater, Next, Climbed, Taken, Planted, Built, Started, Filled    what the functions promise
 use Prim.Native.Nat.{ℕ, zero, suc, _+_, _-_, _*_, _/_, _%_, _^_, _<_, _≤_}
 use mathlib.Core.Path.{_≡_}
 use mathlib.Core.List.{List, [], _∷_, _++_}
 use mathlib.Core.Logic.{_⊎_}
 use lib.ListN.{length}
 use Rattle.algebra.specs.Monomials.{Numbers}
-use Rattle.algebra.specs.Polynomials.{term, Poly, only, Equal, times, mul}
+use Rattle.algebra.specs.Orders.{Rising}
+use Rattle.algebra.specs.Polynomials.{term, Poly, only, Equal, times, mul, norm}
 use Rattle.poly.specs.Words.{records, wordAt, numberAt, span}
 use Rattle.ring.specs.declared.tree.Node.{Node}
 
@@ -145,3 +146,8 @@ pub record Started (rows cols w w′ : List ℕ) : Type 0 where
   pub as-long : length w′ ≡ length w
   pub live : Live rows cols w′
   pub whole : left rows cols w′ 0 (records rows) ≡ mul (span rows 0 (records rows)) (span cols 0 (records cols))
+
+-- the room's first n records are what waited in the tree, in its normal form; a greater n says that it has more terms than the room
+pub record Filled (p : ℕ) (rows cols w room room′ : List ℕ) (n : ℕ) : Type 0 where
+  pub fits : n ≤ records room → span room′ 0 n ≡ norm Rising p (left rows cols w 0 (records rows))
+  pub full : records room < n → records room < length (norm Rising p (left rows cols w 0 (records rows)))

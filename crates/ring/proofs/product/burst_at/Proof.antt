@@ -1,0 +1,103 @@
+-- `ring::product::burst_at` meets its contract: the letters before the one found, and all where none is found, do not burst.
+use Prim.Native.Nat.{ℕ, _+_, _≤_, _<_}
+use mathlib.Core.Path.{_≡_, sym}
+use native.Mathlib.Omega.{arith}
+use borrow.Author.Count.{below-none, below-more}
+use lib.Dec.{lit<}
+use lib.ListN.{getD}
+use Rattle.algebra.specs.Monomials.{exponent}
+use Rattle.algebra.specs.Polynomials.{largest}
+use Rattle.monomial.specs.Layout.{base}
+use Rattle.poly.specs.Words.{polyOf}
+use Rattle.ring.proofs.Bursts.{exponents-of, burst-found, burst-none}
+use borrow.Author.Needs.{needs}
+use Rattle.ring.proofs.product.burst_at.Statement.{statement}
+use Rattle.ring.proofs.product.burst_at.Tie as tie
+
+measure-requires : tie.Need-measure-requires
+measure-requires c κs = search needs
+
+measure-requires-2 : tie.Need-measure-requires-2
+measure-requires-2 c κs = search needs
+
+array-read-if1 : tie.Need-array-read-if1
+array-read-if1 c = search needs
+
+array-read-if1-2 : tie.Need-array-read-if1-2
+array-read-if1-2 c = search needs
+
+-- the numbers that are added are the largest exponents
+first-of : (c : tie.After-b) (v : ℕ) → v < 4 → getD (c .before .before .before .measure .result .exponents) v 0 ≡ largest (exponent 4 v) (polyOf base (c .before .before .before .before .before .before .args .f .now))
+first-of c = exponents-of (c .before .before .before .measure .ensures)
+
+second-of : (c : tie.After-b) (v : ℕ) → v < 4 → getD (c .before .measure2 .result .exponents) v 0 ≡ largest (exponent 4 v) (polyOf base (c .before .before .before .before .before .before .args .g .now))
+second-of c = exponents-of (c .before .measure2 .ensures)
+
+add-if1 : tie.Need-add-if1
+add-if1 c = ?
+
+returns : tie.Need-returns
+returns c = ?
+
+array-read-if2 : tie.Need-array-read-if2
+array-read-if2 c = search needs
+
+array-read-if2-2 : tie.Need-array-read-if2-2
+array-read-if2-2 c = search needs
+
+add-if2 : tie.Need-add-if2
+add-if2 c = ?
+
+returns-2 : tie.Need-returns-2
+returns-2 c = ?
+
+array-read-if3 : tie.Need-array-read-if3
+array-read-if3 c = search needs
+
+array-read-if3-2 : tie.Need-array-read-if3-2
+array-read-if3-2 c = search needs
+
+add-if3 : tie.Need-add-if3
+add-if3 c = ?
+
+returns-3 : tie.Need-returns-3
+returns-3 c = ?
+
+array-read-if4 : tie.Need-array-read-if4
+array-read-if4 c = search needs
+
+array-read-if4-2 : tie.Need-array-read-if4-2
+array-read-if4-2 c = search needs
+
+add-if4 : tie.Need-add-if4
+add-if4 c = ?
+
+returns-4 : tie.Need-returns-4
+returns-4 c = ?
+
+returns-5 : tie.Need-returns-5
+returns-5 c = ?
+
+pub burst-at-spec : {M : Type 1} → statement M
+burst-at-spec =
+    tie.close
+    (tie.spec
+    measure-requires
+    measure-requires-2
+    array-read-if1
+    array-read-if1-2
+    add-if1
+    returns
+    array-read-if2
+    array-read-if2-2
+    add-if2
+    returns-2
+    array-read-if3
+    array-read-if3-2
+    add-if3
+    returns-3
+    array-read-if4
+    array-read-if4-2
+    add-if4
+    returns-4
+    returns-5)
