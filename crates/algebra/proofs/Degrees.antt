@@ -7,16 +7,16 @@
 --   not-zero          a normal polynomial with a term is not equal to zero
 --   largest-mul       the largest weight of a product of nonzero polynomials is the sum of the largest weights
 --   factor-weight     where h · g ≡ f, a monomial of h weighs at most what is left of f's largest weight beside g's
-use Prim.Native.Nat.{ℕ, zero, suc, _+_, _-_, _*_, _%_, _<_, _≤_, max}
+use Prim.Native.Nat.{ℕ, _+_, _<_, _≤_, max}
 use mathlib.Core.Path.{_≡_, refl, sym, _∙_, ap, subst}
-use mathlib.Core.List.{List, [], _∷_, _++_}
-use mathlib.Core.Logic.{_⊎_, inl, inr}
+use mathlib.Core.List.{[], _∷_}
+use mathlib.Core.Logic.{inl, inr}
 use native.Mathlib.Nat.{max-le, le-max-left, le-max-right, le-trans, le-antisymm}
 use native.Mathlib.Omega.{arith}
 use Rattle.algebra.specs.Residues.{Same, Prime}
 use Rattle.algebra.specs.Monomials.{Monomials}
 use Rattle.algebra.specs.Orders.{Order, Weight, Weighted, Then}
-use Rattle.algebra.specs.Polynomials.{Term, Poly, only, coef, Equal, times, mul, largest, norm, All, Below, Normal}
+use Rattle.algebra.specs.Polynomials.{Term, Poly, only, coef, Equal, mul, largest, norm, All, Below, Normal}
 use Rattle.algebra.proofs.Residues.{same-eq, same-sym, same-trans}
 use Rattle.algebra.proofs.NormalForm.{
   all-map,

@@ -3,9 +3,9 @@
 --   Exact             what such a walk has written: no remainder, the front part of h's normal form, and what is left is the rest
 --                     times g; where it stopped, the next term of the normal form is the one that a judge refused
 --   walk-exact        every walk is exact there, whatever its judges and however many its steps
-use Prim.Native.Nat.{ℕ, zero, suc, _+_, _-_, _*_, _%_, _<_, _≤_}
+use Prim.Native.Nat.{ℕ, zero, suc, _+_, _*_, _%_, _<_}
 use mathlib.Core.Path.{_≡_, refl, sym, _∙_, ap, subst}
-use mathlib.Core.List.{List, [], _∷_, _++_}
+use mathlib.Core.List.{[], _∷_, _++_}
 use mathlib.Core.Logic.{_⊎_, inl, inr}
 use lib.ListN.{length, getD}
 use native.Mathlib.Nat.{mod-lt, mod-eq-of-lt, add-zero, add-suc, suc-add, mul-comm}
@@ -13,9 +13,9 @@ use native.Mathlib.Omega.{arith}
 use Rattle.algebra.specs.Residues.{Same, Prime, inverse}
 use Rattle.algebra.specs.Monomials.{Monomials}
 use Rattle.algebra.specs.Orders.{Order}
-use Rattle.algebra.specs.Polynomials.{Term, term, Poly, coef, Equal, times, mul, negated, keep, norm, Below, Falling, Normal}
-use Rattle.algebra.specs.Walk.{Judges, Walked, unfinished, stopped, toQuotient, toRemainder, quotientTerm, remains, handle, walk}
-use Rattle.algebra.proofs.Residues.{same-eq, same-refl, same-sym, same-trans, same-mod, same-mul, same-mul-left, same-below}
+use Rattle.algebra.specs.Polynomials.{Term, term, Poly, Equal, times, mul, negated, keep, norm, Falling, Normal}
+use Rattle.algebra.specs.Walk.{Judges, Walked, unfinished, stopped, toQuotient, quotientTerm, remains, handle, walk}
+use Rattle.algebra.proofs.Residues.{same-eq, same-sym, same-trans, same-mod, same-below}
 use Rattle.algebra.proofs.Primes.{mod-cancel}
 use Rattle.algebra.proofs.Totals.{equal-by}
 use Rattle.algebra.proofs.NormalForm.{

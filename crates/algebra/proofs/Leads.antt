@@ -9,28 +9,17 @@
 --   division-unique       f ≡ q · g + r with no monomial of r divisible by g's lead: the only such pair, against any lists q′, r′
 use Prim.Native.Nat.{ℕ, zero, suc, _+_, _-_, _*_, _%_, _<_, _≤_}
 use mathlib.Core.Path.{_≡_, refl, sym, _∙_, ap, subst}
-use mathlib.Core.List.{List, [], _∷_, _++_}
-use mathlib.Core.Logic.{_⊎_, inl, inr, ⊎-elim}
-use native.Mathlib.Nat.{mod-lt, mod-eq-of-lt, pos-of-ne-zero, zero-mod, add-zero}
+use mathlib.Core.List.{[], _∷_, _++_}
+use mathlib.Core.Logic.{⊎-elim}
+use native.Mathlib.Nat.{pos-of-ne-zero, zero-mod, add-zero}
 use native.Mathlib.Omega.{arith}
 use Rattle.algebra.specs.Residues.{Same, Prime}
 use Rattle.algebra.specs.Monomials.{Monomials}
-use Rattle.algebra.specs.Orders.{Order, Tri, below, level, above}
-use Rattle.algebra.specs.Polynomials.{Term, term, Poly, coef, Equal, NoMultiple, times, mul, negated, keep, norm, Below, Falling, Reduced, Normal}
-use Rattle.algebra.proofs.Residues.{same-eq, same-refl, same-sym, same-trans, same-mod, same-add, same-below, same-minus}
+use Rattle.algebra.specs.Orders.{Order}
+use Rattle.algebra.specs.Polynomials.{Term, term, Poly, coef, Equal, NoMultiple, times, mul, negated, keep, norm, Below, Falling, Normal}
+use Rattle.algebra.proofs.Residues.{same-eq, same-refl, same-sym, same-trans, same-add, same-below, same-minus}
 use Rattle.algebra.proofs.Primes.{euclid}
-use Rattle.algebra.proofs.NormalForm.{
-  below-trans,
-  all-append,
-  norm-normal,
-  norm-equal,
-  norm-unique,
-  equal-refl,
-  equal-sym,
-  equal-trans,
-  extract,
-  lead-coef,
-}
+use Rattle.algebra.proofs.NormalForm.{below-trans, all-append, norm-normal, norm-equal, equal-refl, equal-sym, equal-trans, extract, lead-coef}
 use Rattle.algebra.proofs.Ring.{
   sum-equal,
   sum-mul,

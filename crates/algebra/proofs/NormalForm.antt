@@ -11,33 +11,15 @@
 --   norm-unique, norm-self        equal polynomials have one normal form; a normal polynomial is its own
 --   equal-total                   equal polynomials have the same totals
 --   extract                       the normal form of a term above all the rest, and the rest
-use Prim.Native.Nat.{ℕ, zero, suc, _+_, _-_, _*_, _%_, _<_, _≤_}
+use Prim.Native.Nat.{ℕ, zero, suc, _+_, _*_, _%_, _<_}
 use mathlib.Core.Path.{_≡_, refl, sym, _∙_, ap, subst}
-use mathlib.Core.List.{List, [], _∷_, _++_}
-use native.Mathlib.Nat.{mod-lt, mod-eq-of-lt}
+use mathlib.Core.List.{[], _∷_, _++_}
+use native.Mathlib.Nat.{mod-lt}
 use native.Mathlib.Omega.{arith}
 use Rattle.algebra.specs.Residues.{Same}
 use Rattle.algebra.specs.Monomials.{Monomials}
 use Rattle.algebra.specs.Orders.{Order, Tri, below, level, above}
-use Rattle.algebra.specs.Polynomials.{
-  Term,
-  term,
-  Poly,
-  only,
-  coef,
-  Equal,
-  keep,
-  nonzero,
-  placed,
-  insert,
-  sorted,
-  norm,
-  All,
-  Below,
-  Falling,
-  Reduced,
-  Normal,
-}
+use Rattle.algebra.specs.Polynomials.{Term, term, Poly, only, coef, Equal, keep, nonzero, placed, insert, sorted, norm, All, Below, Falling, Normal}
 use Rattle.algebra.proofs.Residues.{
   same-eq,
   same-refl,
@@ -49,7 +31,7 @@ use Rattle.algebra.proofs.Residues.{
   same-cancel,
   same-below,
 }
-use Rattle.algebra.proofs.Totals.{total, at, coef-total, equal-by}
+use Rattle.algebra.proofs.Totals.{total, equal-by}
 
 abbrev pub Small : {K : Monomials} → ℕ → Poly K → Type 0
 Small p [] = Unit {0}

@@ -9,7 +9,7 @@
 --   euclid                           a product that is the same as 0 has a factor that is
 --   inverse-unique                   no other number below p times a is the same as 1
 use Prim.Native.Nat.{ℕ, zero, suc, _+_, _-_, _*_, _/_, _%_, _<_, _≤_, _∣_}
-use mathlib.Core.Path.{_≡_, refl, sym, _∙_, ap}
+use mathlib.Core.Path.{_≡_, sym, _∙_, ap}
 use mathlib.Core.Bool.{Bool, true, false}
 use mathlib.Core.Logic.{_⊎_, inl, inr}
 use native.Mathlib.Nat.{mod-lt, mod-eq-of-lt, zero-mod, div-add-mod', mod-eq-zero-of-dvd, dvd-of-mod-eq-zero, le-of-dvd, pos-of-dvd-of-pos}
@@ -17,7 +17,7 @@ use native.Mathlib.Decide.{ℕ-discrete, decLt}
 use native.Mathlib.Omega.{arith}
 use lib.Dec.{eqb, leb}
 use borrow.Author.Tests.{leb-true, le-leb, eqb-true, eqb-false, eq-eqb, ne-eqb}
-use Rattle.algebra.specs.Residues.{Same, Prime, isPrime, inverse, divides, first, pick}
+use Rattle.algebra.specs.Residues.{Same, Prime, isPrime, inverse, divides, first}
 use Rattle.algebra.proofs.Tests.{both-true}
 use Rattle.algebra.proofs.Residues.{same-eq, same-refl, same-sym, same-trans, same-mod, same-multiple, same-mul, same-mul-left, same-cancel, same-below, same-decided}
 use Rattle.algebra.proofs.Scan.{first-from, first-hit, first-miss, first-unique}

@@ -8,9 +8,9 @@
 --   same-minus               a + (p − 1) · a is the same as 0: p − 1 is −1
 --   same-below               numbers below p that are the same are equal
 --   same-decided             sameness is decided
-use Prim.Native.Nat.{ℕ, zero, suc, _+_, _-_, _*_, _/_, _%_, _<_, _≤_}
+use Prim.Native.Nat.{ℕ, _+_, _-_, _*_, _/_, _%_, _<_}
 use mathlib.Core.Path.{_≡_, refl, sym, _∙_, ap}
-use native.Mathlib.Nat.{add-mod, mod-mod, mod-eq-of-lt, add-mul-mod-self-right, div-add-mod'}
+use native.Mathlib.Nat.{mod-mod, mod-eq-of-lt, add-mul-mod-self-right, div-add-mod'}
 use native.Mathlib.Decide.{ℕ-discrete}
 use native.Mathlib.Omega.{arith}
 use Rattle.algebra.specs.Residues.{Same}

@@ -5,38 +5,16 @@
 --   negated-equal, mul-negated, total-negated, coef-negated    of the negative
 --   difference-zero               polynomials whose difference is zero are equal
 --   move-over                     what is added on one side may be subtracted on the other
-use Prim.Native.Nat.{ℕ, zero, suc, _+_, _-_, _*_, _%_, _<_}
-use mathlib.Core.Path.{_≡_, refl, sym, _∙_, ap}
-use mathlib.Core.List.{List, [], _∷_, _++_}
+use Prim.Native.Nat.{ℕ, _-_, _*_, _<_}
+use mathlib.Core.Path.{_≡_, sym, _∙_, ap}
+use mathlib.Core.List.{[], _∷_, _++_}
 use native.Mathlib.Nat.{zero-add}
 use native.Mathlib.Omega.{arith}
-use Rattle.algebra.specs.Residues.{Same}
 use Rattle.algebra.specs.Monomials.{Monomials}
 use Rattle.algebra.specs.Orders.{Order}
-use Rattle.algebra.specs.Polynomials.{Term, term, Poly, coef, Equal, times, mul, negated}
-use Rattle.algebra.proofs.Residues.{
-  same-eq,
-  same-refl,
-  same-sym,
-  same-trans,
-  same-add,
-  same-mul-left,
-  same-cancel,
-  same-minus,
-}
-use Rattle.algebra.proofs.Totals.{
-  total,
-  at,
-  coef-total,
-  total-append,
-  total-ext,
-  total-same,
-  total-scale,
-  total-plus,
-  total-mul,
-  total-swap,
-  equal-by,
-}
+use Rattle.algebra.specs.Polynomials.{term, Poly, coef, Equal, mul, negated}
+use Rattle.algebra.proofs.Residues.{same-eq, same-refl, same-trans, same-add, same-mul-left, same-cancel, same-minus}
+use Rattle.algebra.proofs.Totals.{total, at, coef-total, total-append, total-ext, total-same, total-plus, total-mul, total-swap, equal-by}
 use Rattle.algebra.proofs.NormalForm.{equal-refl, equal-sym, equal-trans, equal-total}
 
 pub total-negated : {K : Monomials} (p : ℕ) (φ : K .Mon → ℕ) (f : Poly K) → total φ (negated p f) ≡ (p - 1) * total φ f

@@ -7,13 +7,13 @@
 --   at K m, coef-total            a coefficient is a total
 --   coef-append                  the coefficients of a sum are the sums
 --   equal-by                     polynomials with the same totals are equal
-use Prim.Native.Nat.{ℕ, zero, suc, _+_, _-_, _*_, _%_}
-use mathlib.Core.Path.{_≡_, refl, sym, _∙_, ap}
-use mathlib.Core.List.{List, [], _∷_, _++_}
+use Prim.Native.Nat.{ℕ, _+_, _*_}
+use mathlib.Core.Path.{_≡_, refl, sym}
+use mathlib.Core.List.{[], _∷_, _++_}
 use native.Mathlib.Omega.{arith}
 use Rattle.algebra.specs.Residues.{Same}
 use Rattle.algebra.specs.Monomials.{Monomials}
-use Rattle.algebra.specs.Polynomials.{Term, term, Poly, only, coef, Equal, times, mul}
+use Rattle.algebra.specs.Polynomials.{Term, Poly, only, coef, Equal, times, mul}
 use Rattle.algebra.proofs.Residues.{same-eq, same-refl, same-trans, same-add, same-mul-left}
 
 abbrev pub total : {K : Monomials} → (K .Mon → ℕ) → Poly K → ℕ

@@ -7,32 +7,15 @@
 --   walk-divides          every walk divides, whatever its judges and however many its steps
 --   walk-done             a walk that replies 0 leaves nothing
 --   walk-finishes         n steps are enough where every monomial met has a height below n, and a lower one less
-use Prim.Native.Nat.{ℕ, zero, suc, _+_, _-_, _*_, _%_, _<_, _≤_}
+use Prim.Native.Nat.{ℕ, zero, suc, _+_, _*_, _%_, _<_}
 use mathlib.Core.Path.{_≡_, refl, sym, _∙_, ap, subst}
-use mathlib.Core.List.{List, [], _∷_, _++_, append-assoc}
+use mathlib.Core.List.{[], _∷_, _++_}
 use native.Mathlib.Nat.{mod-lt, add-zero, zero-mul, pos-of-ne-zero}
 use native.Mathlib.Omega.{arith}
 use Rattle.algebra.specs.Residues.{Same, Prime, inverse}
 use Rattle.algebra.specs.Monomials.{Monomials}
 use Rattle.algebra.specs.Orders.{Order, Tri, below, level, above}
-use Rattle.algebra.specs.Polynomials.{
-  Term,
-  term,
-  Poly,
-  only,
-  coef,
-  Equal,
-  NoMultiple,
-  times,
-  mul,
-  negated,
-  sorted,
-  norm,
-  All,
-  Below,
-  Falling,
-  Normal,
-}
+use Rattle.algebra.specs.Polynomials.{Term, Poly, only, Equal, NoMultiple, times, mul, negated, All, Below, Falling, Normal}
 use Rattle.algebra.specs.Walk.{Judges, Walked, unfinished, stopped, toQuotient, toRemainder, quotientTerm, remains, handle, walk}
 use Rattle.algebra.proofs.Residues.{
   same-eq,

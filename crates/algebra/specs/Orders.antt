@@ -8,10 +8,10 @@
 --   exponents k v, degrees k    the weights: the exponent of letter v, and the sum of the exponents
 --   Weighted O w    by the weight w, and by O where two weights are equal
 use Prim.Native.Nat.{ℕ, zero, suc, _+_, _<_}
-use mathlib.Core.Path.{_≡_, refl, sym, _∙_, ap, subst}
+use mathlib.Core.Path.{_≡_, refl, sym, _∙_, ap}
 use mathlib.Core.Logic.{_⊎_, inl, inr}
 use native.Mathlib.Nat.{lt-irrefl, lt-trans}
-use native.Mathlib.Decide.{ℕ-discrete, decLt}
+use native.Mathlib.Decide.{decLt}
 use native.Mathlib.Omega.{arith}
 use Rattle.algebra.specs.Monomials.{Monomials, Numbers, constant, withLetter, Letters, exponent, degree}
 

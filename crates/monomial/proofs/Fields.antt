@@ -19,7 +19,7 @@
 --   borrow-test             a word with its guard bits set, less another: all guard bits stay just where the other divides it
 use Prim.Native.Nat.{ℕ, zero, suc, _+_, _-_, _*_, _/_, _%_, _^_, _≤_, _<_}
 use mathlib.Core.Path.{_≡_, refl, sym, _∙_, ap}
-use mathlib.Core.Bool.{Bool, true, false, _&&_, false≢true, and-true}
+use mathlib.Core.Bool.{true, _&&_, and-true}
 use mathlib.Core.Logic.{_↔_, Iff·trans, inl, inr}
 use native.Mathlib.Nat.{pow-suc, mul-suc, mul-zero, mod-lt, mod-eq-of-lt, mul-le-mul-right, div-lt-iff-lt-mul}
 use native.Mathlib.Decide.{decLt, decLe}

@@ -6,7 +6,7 @@
 --   run-found                  the run from the first term with the power to the first without
 --   end-within                 the scan for the end answers at most the number of terms
 --   run-within                 the run starts at most at its end, and ends within the slice
-use Prim.Native.Nat.{ℕ, zero, suc, _+_, _-_, _*_, _/_, _≤_, _<_}
+use Prim.Native.Nat.{ℕ, _-_, _*_, _≤_, _<_}
 use mathlib.Core.Path.{_≡_, refl, sym, _∙_, ap}
 use mathlib.Core.Bool.{Bool, true, false, _&&_}
 use mathlib.Core.List.{List}

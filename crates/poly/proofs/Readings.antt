@@ -20,20 +20,20 @@
 --   span-monomials, span-normal, valid-fits, valid-coded, valid-normal, valid-words-of      of a Valid slice, the other way
 --   measure-terms, measure-exponents, measure-total      the profile is of the largest weights
 --   weight-within       every term weighs at most the largest weight, as each exponent is at most the letter's largest
-use Prim.Native.Nat.{ℕ, zero, suc, _+_, _-_, _*_, _/_, _<_, _≤_}
+use Prim.Native.Nat.{ℕ, zero, suc, _+_, _-_, _*_, _<_, _≤_}
 use mathlib.Core.Path.{_≡_, refl, sym, _∙_, ap, subst}
 use mathlib.Core.Bool.{true}
 use mathlib.Core.List.{List, [], _∷_, _++_, append-nil}
-use mathlib.Core.Logic.{_⊎_, inl, inr}
+use mathlib.Core.Logic.{inl, inr}
 use native.Mathlib.Nat.{add-zero, zero-add, suc-add, lt-trans, eq-or-lt-of-le}
 use native.Mathlib.Omega.{arith}
 use lib.ListN.{length, getD, take, drop, set, length-append, length-set}
 use lib.Seq.{drop-cons, take-all, getD-set-same, getD-set-other}
-use Rattle.algebra.specs.Monomials.{Monomials, Letters, Numbers, exponent, degree}
-use Rattle.algebra.specs.Orders.{Order, Rising, Lex}
+use Rattle.algebra.specs.Monomials.{Letters, Numbers, exponent, degree}
+use Rattle.algebra.specs.Orders.{Rising, Lex}
 use Rattle.algebra.specs.Polynomials.{Term, term, Poly, largest, All, Below, Falling, Reduced, Normal}
 use Rattle.algebra.proofs.Degrees.{largest-all}
-use Rattle.monomial.specs.Layout.{Layout, base, isMonomial, fits, wordOf, exponentsOf, exponentOf}
+use Rattle.monomial.specs.Layout.{Layout, base, isMonomial}
 use Rattle.monomial.proofs.Laws.{read, write, fit, monomial-fits, monomial-word, word-monomial, word-read, coding}
 use Rattle.poly.specs.Words.{records, wordAt, numberAt, termAt, terms, span, polyOf, wordsOf}
 use Rattle.poly.specs.Services.{measureOf}

@@ -3,14 +3,14 @@
 --   length-terms          n records are n terms
 --   largest-down          the largest weight of the records from i on, taken one record down as a loop does
 --   field-below           an exponent read from any word of 64 bits is below 2 ^ 16
-use Prim.Native.Nat.{ℕ, zero, suc, _+_, _-_, _*_, _/_, _%_, _^_, _<_, _≤_, max}
+use Prim.Native.Nat.{ℕ, zero, suc, _-_, _^_, _<_, _≤_, max}
 use mathlib.Core.Path.{_≡_, refl, sym, _∙_, ap, subst}
-use mathlib.Core.List.{List, [], _∷_, _++_}
+use mathlib.Core.List.{List}
 use lib.ListN.{length}
 use lib.Pow.{pow-pos}
 use native.Mathlib.Nat.{mod-lt}
 use native.Mathlib.Omega.{arith}
-use Rattle.algebra.specs.Monomials.{Letters, exponent}
+use Rattle.algebra.specs.Monomials.{Letters}
 use Rattle.algebra.specs.Polynomials.{largest}
 use Rattle.monomial.specs.Layout.{Layout, base, exponentsOf, exponentOf}
 use Rattle.monomial.proofs.Fields.{exponent-field}

@@ -16,22 +16,22 @@
 --   accepted-fold      of a call that is Accepted, the fold answers what the rules after 6 do
 --   check-passed, check-valid      the check passes just where p is a modulus and the slice is Valid and within 4096 terms
 --   check-tells-1 .. check-tells-6      each refusal of the check is told just where its rule says so and none before it is due
-use Prim.Native.Nat.{ℕ, zero, suc, _+_, _-_, _*_, _/_, _%_, _<_, _≤_}
+use Prim.Native.Nat.{ℕ, zero, suc, _*_, _%_, _<_, _≤_}
 use mathlib.Core.Path.{_≡_, refl, sym, _∙_, ap}
 use mathlib.Core.Bool.{Bool, true, false, not, _||_}
 use mathlib.Core.List.{List, [], _∷_, _++_, map}
-use mathlib.Core.Logic.{_⊎_, inl, inr, _↔_}
+use mathlib.Core.Logic.{inl, inr, _↔_}
 use native.Mathlib.Omega.{arith}
 use lib.Dec.{eqb, leb, ltb}
 use lib.ListN.{length}
 use borrow.Author.Tests.{ltb-true, ltb-false, leb-true, leb-false, eqb-true, eqb-false, not-false, lt-ltb, le-ltb, le-leb, lt-leb, eq-eqb, ne-eqb}
 use Rattle.algebra.specs.Residues.{pick, first}
-use Rattle.algebra.proofs.Tests.{never, neither}
+use Rattle.algebra.proofs.Tests.{neither}
 use Rattle.algebra.proofs.Scan.{first-hit, first-miss, first-unique}
 use Rattle.field.specs.Moduli.{isModulus}
 use Rattle.monomial.specs.Layout.{base, isMonomial}
 use Rattle.poly.specs.Words.{records, wordAt, numberAt}
-use Rattle.poly.specs.Reports.{none, refusal, done, orElse, firstOr}
+use Rattle.poly.specs.Reports.{none, refusal, done, firstOr}
 use Rattle.poly.specs.Rules.{
   inputTerms,
   unless,
@@ -56,18 +56,7 @@ use Rattle.poly.specs.Rules.{
 use Rattle.poly.specs.Services.{asInput, checkOf}
 use Rattle.poly.specs.Valid.{Valid}
 use Rattle.poly.specs.declared.report.Report.{Report}
-use Rattle.poly.proofs.Reports.{
-  or-else-next,
-  or-else-here,
-  Passed,
-  passed-append,
-  append-passed,
-  fold-append,
-  fold-passed,
-  passed-fold,
-  fold-tells,
-  fold-told,
-}
+use Rattle.poly.proofs.Reports.{Passed, passed-append, append-passed, fold-append, fold-passed, passed-fold, fold-tells, fold-told}
 
 pub record Shaped (s : Lent) : Type 0 where
   pub even : length (s .words) ≡ 2 * records (s .words)

@@ -12,8 +12,8 @@
 --   Lent                        an input or output slice: its operand, its words, and the most terms it may have
 --   refusals l p ins outs       the rules 1 to 6 of a call with these inputs and outputs, in the order in which they win
 use Prim.Native.Nat.{ℕ, zero, suc, _%_}
-use mathlib.Core.Bool.{Bool, true, false, not, _||_}
-use mathlib.Core.List.{List, [], _∷_, _++_, map}
+use mathlib.Core.Bool.{Bool, false, not, _||_}
+use mathlib.Core.List.{List, _∷_, _++_, map}
 use lib.Dec.{eqb, leb, ltb}
 use lib.ListN.{length}
 use Rattle.algebra.specs.Residues.{pick, first}

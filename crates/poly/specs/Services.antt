@@ -5,7 +5,7 @@
 --   profileOf p s        the same beside the report; zero where the report refuses
 --   runOf s power        where the terms with this power of x lie, in words of the slice
 --   wordsFrom part s     the words of that part
-use Prim.Native.Nat.{ℕ, zero, suc, _*_, _-_}
+use Prim.Native.Nat.{ℕ, _*_, _-_}
 use mathlib.Core.Bool.{Bool, true, false, not, _&&_}
 use mathlib.Core.List.{List, [], _∷_, _++_}
 use lib.Dec.{eqb, ltb}

@@ -1,6 +1,6 @@
 // The report that every call on polynomials answers.
 ghost use mathlib.Core.Path.{_≡_};
-ghost use Rattle.poly.specs.Reports.{none, refusal, done, orElse};
+ghost use Rattle.poly.specs.Reports.{refusal, done, orElse};
 
 // The number, the operand that it blames, a term index, and the terms of the first and the second output.
 #[repr(C)]

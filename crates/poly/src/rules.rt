@@ -1,6 +1,6 @@
 // The refusals 1 to 8. A call folds those that it has with `or_else`, in the order in which they win.
 ghost use mathlib.Core.Path.{_≡_};
-ghost use Prim.Native.Nat.{_*_, _+_, _<_, _≤_};
+ghost use Prim.Native.Nat.{_*_, _+_, _<_};
 ghost use lib.ListN.{length};
 ghost use Rattle.algebra.specs.Residues.{pick};
 ghost use Rattle.monomial.specs.Layout.{base};

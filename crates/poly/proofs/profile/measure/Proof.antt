@@ -8,7 +8,7 @@ use mathlib.Core.List.{[], _∷_}
 use lib.Dec.{lit<}
 use Rattle.algebra.specs.Monomials.{Letters, exponent, degree}
 use Rattle.algebra.specs.Polynomials.{largest}
-use Rattle.monomial.specs.Layout.{base, exponentsOf, exponentOf}
+use Rattle.monomial.specs.Layout.{base, exponentsOf}
 use Rattle.poly.specs.Words.{records, wordAt, terms, polyOf}
 use Rattle.poly.specs.Services.{measureOf}
 use Rattle.poly.proofs.Terms.{largest-down, field-below}

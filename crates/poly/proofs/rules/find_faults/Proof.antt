@@ -4,7 +4,7 @@ use mathlib.Core.Bool.{Bool}
 use mathlib.Core.Path.{_≡_, _∙_, ap}
 use native.Mathlib.Nat.{sub-self, sub-zero}
 use native.Mathlib.Omega.{arith}
-use Rattle.algebra.specs.Residues.{first, pick}
+use Rattle.algebra.specs.Residues.{first}
 use Rattle.algebra.proofs.Scan.{first-down}
 use Rattle.monomial.specs.Layout.{base}
 use Rattle.poly.specs.Words.{records}
