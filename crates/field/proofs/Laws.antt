@@ -12,7 +12,7 @@
 --   negative-same          p − a, reduced, is the same as (p − 1) · a: −a in two forms
 use Prim.Native.Nat.{ℕ, suc, _+_, _-_, _*_, _%_, _<_, _≤_}
 use mathlib.Core.Path.{_≡_, refl, _∙_, ap}
-use mathlib.Core.Bool.{Bool, true, false, _&&_}
+use mathlib.Core.Bool.{Bool, true, _&&_}
 use mathlib.Core.Logic.{_↔_}
 use native.Mathlib.Nat.{mod-lt, mod-eq-of-lt}
 use native.Mathlib.Decide.{decLe}
@@ -20,14 +20,15 @@ use native.Mathlib.Omega.{arith}
 use lib.Dec.{ltb}
 use lib.IntN.{ℤ, pos, negsuc}
 use borrow.Author.Tests.{ltb-true, lt-ltb, le-leb, lt-leb}
-use Rattle.algebra.specs.Residues.{Same, Prime, pick}
+use Rattle.algebra.specs.Residues.{Same, Prime}
 use Rattle.algebra.proofs.Residues.{same-eq, same-sym, same-trans, same-mod, same-multiple, same-add, same-cancel, same-minus}
 use Rattle.algebra.proofs.Primes.{below-not-zero, inverse-law, inverse-below}
 use Rattle.field.specs.declared.Balance.{Balance}
-use Rattle.field.specs.Moduli.{limit, isModulus, modulusOf}
+use Rattle.field.specs.Moduli.{limit, modulusOf}
 use Rattle.field.specs.Answers.{orRefused, value, noValue, sumOf, productOf, inverseOf, balancedValue, balancedOf, residueValue, residueOf}
 use Rattle.algebra.proofs.Tests.{both-true}
 use Rattle.field.proofs.Moduli.{modulus-prime, modulus-within, modulus-of, modulus-passed}
+use Rattle.field.proofs.Operands.{answer-passed}
 use Rattle.field.proofs.Signs.{subtracted}
 
 -- Reply 0
@@ -35,14 +36,9 @@ use Rattle.field.proofs.Signs.{subtracted}
 abbrev Modulus : ℕ → Type 0
 Modulus p = Prime p × (p ≤ limit)
 
-picked : {A : Type 0} (number : A → ℕ) (refused : ℕ → A) → ((r : ℕ) → number (refused r) ≡ r) → (m good : Bool) (v : A) → number (pick m (pick good v (refused 6)) (refused 1)) ≡ 0 → (m ≡ true) × (good ≡ true)
-picked number refused k true true v e = (refl, refl)
-picked number refused k true false v e = absurd (omega (arith, k 6))
-picked number refused k false good v e = absurd (omega (arith, k 1))
-
 done : {A : Type 0} (number : A → ℕ) (refused : ℕ → A) → ((r : ℕ) → number (refused r) ≡ r) → (p : ℕ) (good : Bool) (v : A) → number v ≡ 0 → (number (orRefused refused p good v) ≡ 0) ↔ (Modulus p × (good ≡ true))
 done number refused k p good v z = (
-  λ e. let h = picked number refused k (isModulus p) good v e in ((modulus-prime (h .0), modulus-within (h .0)), h .1),
+  λ e. let h = answer-passed number refused k p good v e in ((modulus-prime (h .0), modulus-within (h .0)), h .1),
   λ h. rw (modulus-of (h .0 .0) (h .0 .1), h .1) z,
 )
 

@@ -1,6 +1,7 @@
 -- What each field operation answers: a number, 0 or that of a refusal, and a value, 0 beside a refusal.
 -- Refusal 1 comes first, where p is not a modulus; then 6, where an operand is not what it has to be.
 --
+--   refusalOf p good     the refusal that is due of a modulus and operands, 0 where none is
 --   orRefused            an answer, or the refusal that is due in its place
 --   value, noValue       reply 0 with a value; a refusal with the value 0
 --   sumOf p a b          the answer of the sum: a + b modulo p
@@ -12,16 +13,20 @@
 --   residueOf p n        the answer with it; 6 refuses none
 use Prim.Native.Nat.{ℕ, _+_, _-_, _*_, _%_}
 use mathlib.Core.Bool.{Bool, true, _&&_}
-use lib.Dec.{leb, ltb}
+use lib.Dec.{eqb, leb, ltb}
 use lib.IntN.{ℤ, pos, negsuc, subℕ}
 use Rattle.algebra.specs.Residues.{inverse, pick}
 use Rattle.field.specs.Moduli.{isModulus}
 use Rattle.field.specs.declared.Value.{Value}
 use Rattle.field.specs.declared.Balance.{Balance}
 
--- the answer v; 1 in its place where p is not a modulus, and then 6 where the operands are not good
+-- 1 where p is not a modulus, and then 6 where the operands are not good
+abbrev pub refusalOf : ℕ → Bool → ℕ
+refusalOf p good = pick (isModulus p) (pick good 0 6) 1
+
+-- the answer v, or in its place the refusal that is due
 abbrev pub orRefused : {A : Type 0} → (ℕ → A) → ℕ → Bool → A → A
-orRefused refused p good v = pick (isModulus p) (pick good v (refused 6)) (refused 1)
+orRefused refused p good v = pick (eqb (refusalOf p good) 0) v (refused (refusalOf p good))
 
 -- Answers with a value from 0 to p − 1
 

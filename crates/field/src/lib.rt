@@ -1,7 +1,9 @@
 // Numbers modulo a prime p: the single field operations of document 01, and the unchecked forms of them that loops call, for a
 // modulus and operands that are known to be good.
 ghost use mathlib.Core.Path.{_≡_};
-ghost use Rattle.field.specs.Answers.{noValue};
+ghost use mathlib.Core.Bool.{_&&_};
+ghost use lib.Dec.{ltb};
+ghost use Rattle.field.specs.Answers.{refusalOf, noValue};
 
 mod balances;
 mod inverses;
@@ -38,4 +40,20 @@ fn refused(number: u64) -> Value
     ensures { λ r. ⌜ r ≡ noValue number ⌝ }
 {
     Value { number, value: 0 }
+}
+
+// The refusal that is due of a modulus and two residues, 0 where none is.
+fn pair_refusal(p: u64, a: u64, b: u64) -> u64
+    ensures { λ r. ⌜ r ≡ refusalOf p (ltb a p && ltb b p) ⌝ }
+{
+    if modulus(p) != 0 {
+        return 1;
+    }
+    if p <= a {
+        return 6;
+    }
+    if p <= b {
+        return 6;
+    }
+    0
 }

@@ -3,21 +3,16 @@ ghost use Prim.Native.Nat.{_+_, _-_, _%_, _<_, _≤_};
 ghost use Rattle.field.specs.Moduli.{limit};
 ghost use Rattle.field.specs.Answers.{sumOf};
 use crate::Value;
-use crate::primes::modulus;
+use crate::pair_refusal;
 use crate::refused;
 
 // The sum of two residues.
 pub fn sum(p: u64, a: u64, b: u64) -> Value
     ensures { λ r. ⌜ r ≡ sumOf p a b ⌝ }
 {
-    if modulus(p) != 0 {
-        return refused(1);
-    }
-    if p <= a {
-        return refused(6);
-    }
-    if p <= b {
-        return refused(6);
+    let due = pair_refusal(p, a, b);
+    if due != 0 {
+        return refused(due);
     }
     Value {
         number: 0,

@@ -1,18 +1,20 @@
+use Prim.Native.Nat.{_<_, _+_, _%_}
 use mathlib.Core.Path.{_≡_, _∙_}
-use mathlib.Core.Bool.{true}
+use mathlib.Core.Bool.{true, _&&_}
+use lib.Dec.{ltb}
 use borrow.Author.Needs.{needs}
-use borrow.Author.Tests.{lt-ltb, le-ltb}
 use Rattle.field.specs.Moduli.{isModulus}
-use Rattle.field.specs.Answers.{value, sumOf}
-use Rattle.field.proofs.Moduli.{modulus-within, modulus-passed, modulus-refused}
+use Rattle.field.specs.Answers.{value, noValue, sumOf}
+use Rattle.field.proofs.Moduli.{modulus-within}
+use Rattle.field.proofs.Operands.{pair-passed, answer-given, answer-refused}
 use Rattle.field.proofs.sums.sum.Statement.{statement}
 use Rattle.field.proofs.sums.sum.Tie as tie
 
-is-modulus : (c : tie.Else1) → isModulus (c .before .before .args .p) ≡ true
-is-modulus c = modulus-passed _ (c .before .modulus .ensures) (c .if1 .left)
+passed : (c : tie.Else1) → (isModulus (c .before .before .args .p) ≡ true) × (c .before .before .args .a < c .before .before .args .p) × (c .before .before .args .b < c .before .before .args .p)
+passed c = pair-passed (c .before .before .args .p) (c .before .before .args .a) (c .before .before .args .b) _ (c .before .pair-refusal .ensures) (c .if1 .left)
 
-modulus-requires : tie.Need-modulus-requires
-modulus-requires c κs = search needs
+pair-refusal-requires : tie.Need-pair-refusal-requires
+pair-refusal-requires c κs = search needs
 
 refused-requires : tie.Need-refused-requires
 refused-requires c κs = search needs
@@ -20,43 +22,23 @@ refused-requires c κs = search needs
 returns : tie.Need-returns
 unfolding sumOf
 returns c =
-    c .refused .ensures ∙ rw (modulus-refused _ (c .before .before .modulus .ensures) (c .before .if1 .taken))
+    let p = c .before .before .before .args .p in
+    let a = c .before .before .before .args .a in
+    let b = c .before .before .before .args .b in
+    c .refused .ensures ∙ answer-refused p (ltb a p && ltb b p) _ (c .before .before .pair-refusal .ensures) noValue (value ((a + b) % p)) (c .before .if1 .taken)
 
-refused-requires-2 : tie.Need-refused-requires-2
-refused-requires-2 c κs = search needs
+add-mod-requires : tie.Need-add-mod-requires
+add-mod-requires c κs =
+    let h = passed c in
+    (modulus-within (h .0), h .1, h .2)
 
 returns-2 : tie.Need-returns-2
 unfolding sumOf
-returns-2 c = c .refused2 .ensures ∙ rw (is-modulus (c .before .before), le-ltb _ _ (c .before .if2 .taken))
-
-refused-requires-3 : tie.Need-refused-requires-3
-refused-requires-3 c κs = search needs
-
-returns-3 : tie.Need-returns-3
-unfolding sumOf
-returns-3 c =
-    c .refused3 .ensures
-    ∙ rw (is-modulus (c .before .before .before), lt-ltb _ _ (c .before .before .if2 .left), le-ltb _ _ (c .before .if3 .taken))
-
-add-mod-requires : tie.Need-add-mod-requires
-add-mod-requires c κs = (modulus-within (is-modulus (c .before .before)), c .before .if2 .left, c .if3 .left)
-
-returns-4 : tie.Need-returns-4
-unfolding sumOf
-returns-4 c =
-    rw (is-modulus (c .before .before .before), lt-ltb _ _ (c .before .before .if2 .left), lt-ltb _ _ (c .before .if3 .left))
-    (λ i. value (c .add-mod .ensures i))
+returns-2 c =
+    let p = c .before .before .before .args .p in
+    let a = c .before .before .before .args .a in
+    let b = c .before .before .before .args .b in
+    (λ i. value (c .add-mod .ensures i)) ∙ answer-given p (ltb a p && ltb b p) _ (c .before .before .pair-refusal .ensures) noValue (value ((a + b) % p)) (c .before .if1 .left)
 
 pub sum-spec : {M : Type 1} → statement M
-sum-spec =
-    tie.close
-    (tie.spec
-    modulus-requires
-    refused-requires
-    returns
-    refused-requires-2
-    returns-2
-    refused-requires-3
-    returns-3
-    add-mod-requires
-    returns-4)
+sum-spec = tie.close (tie.spec pair-refusal-requires refused-requires returns add-mod-requires returns-2)
