@@ -10,7 +10,9 @@
 --   length-flat, flat-append, records-flat       of the words of terms
 --   span-flat, span-flat-append, flat-span, flat-records      words and their records, there and back
 --   span-set-after, span-set-before, span-store, span-stored  the records after a store: elsewhere, and at the end
+--   length-filled, filled-span           words filled up with zero words; a slice with the records of f and then zero words
 --   span-all, all-span, span-falling, falling-span, span-reduced, reduced-span      a property of every record, record by record
+--   length-poly         a slice has as many terms as records
 --   flat-coded, terms-decoded, poly-decoded      a polynomial's words are those of its coded terms; a slice's terms are its records decoded
 --   decoded-coded, coded-decoded, length-coded, decoded-append, coded-append, coded-monomials, decoded-fits      coding undoes decoding
 --   coded-normal, normal-coded           a polynomial that fits is normal just where its coded terms are
@@ -27,17 +29,18 @@ use mathlib.Core.List.{List, [], _∷_, _++_, append-nil}
 use mathlib.Core.Logic.{inl, inr}
 use native.Mathlib.Nat.{add-zero, zero-add, suc-add, lt-trans, eq-or-lt-of-le}
 use native.Mathlib.Omega.{arith}
-use lib.ListN.{length, getD, take, drop, set, length-append, length-set}
-use lib.Seq.{drop-cons, take-all, getD-set-same, getD-set-other}
+use lib.ListN.{length, getD, take, drop, set, replicate, length-append, length-drop, length-set, length-replicate, getD-replicate, take-append-drop}
+use lib.Seq.{drop-cons, take-all, getD-drop, getD-set-same, getD-set-other, ext-getD}
 use Rattle.algebra.specs.Monomials.{Letters, Numbers, exponent, degree}
 use Rattle.algebra.specs.Orders.{Rising, Lex}
 use Rattle.algebra.specs.Polynomials.{Term, term, Poly, largest, All, Below, Falling, Reduced, Normal}
 use Rattle.algebra.proofs.Degrees.{largest-all}
 use Rattle.monomial.specs.Layout.{Layout, base, isMonomial}
 use Rattle.monomial.proofs.Laws.{read, write, fit, monomial-fits, monomial-word, word-monomial, word-read, coding}
-use Rattle.poly.specs.Words.{records, wordAt, numberAt, termAt, terms, span, polyOf, wordsOf}
+use Rattle.poly.specs.Words.{records, wordAt, numberAt, termAt, terms, span, polyOf, wordsOf, filled}
 use Rattle.poly.specs.Services.{measureOf}
 use Rattle.poly.specs.Valid.{Valid}
+use Rattle.poly.proofs.Terms.{length-terms}
 
 abbrev pub termW : List ℕ → ℕ → Term Numbers
 termW s i = term (wordAt s i) (numberAt s i)
@@ -153,6 +156,23 @@ span-store s i n m c h =
 pub span-stored : (s : List ℕ) (n m c : ℕ) → 2 * n + 1 < length s → span (set (set s (2 * n) m) (2 * n + 1) c) 0 (n + 1) ≡ span s 0 n ++ (term m c ∷ [])
 span-stored s n m c h =
     rw (zero-add n) at (span-store s 0 n m c (omega arith))
+
+-- Words filled up with zero words
+
+pub length-filled : (n : ℕ) (ws : List ℕ) → length ws ≤ n → length (filled n ws) ≡ n
+length-filled n ws h = omega (arith, length-append ws (replicate {A = ℕ} (n - length ws) 0), length-replicate {A = ℕ} (n - length ws) 0)
+
+-- a slice that has the records of f and then zero words, as a call leaves its output
+pub filled-span : (s : List ℕ) (f : Poly Numbers) → span s 0 (length f) ≡ f → 2 * length f ≤ length s → ((j : ℕ) → 2 * length f ≤ j → j < length s → getD s j 0 ≡ 0) → s ≡ filled (length s) (flat f)
+filled-span s f e h zeros =
+    let n = 2 * length f in
+    let m = length s - length (flat f) in
+    let l : length (flat f) ≡ n = length-flat f in
+    let front : take n s ≡ flat f = sym (flat-span s 0 (length f) (omega arith)) ∙ ap flat e in
+    let d : length (drop n s) ≡ length s - n = length-drop n s in
+    let r : length (replicate {A = ℕ} m 0) ≡ m = length-replicate m 0 in
+    let back : drop n s ≡ replicate m 0 = ext-getD 0 (drop n s) (replicate m 0) (omega arith) (λ i k. getD-drop n s i 0 ∙ zeros (n + i) (omega arith) (omega arith) ∙ sym (getD-replicate m i 0 0 (omega arith))) in
+    sym (take-append-drop n s) ∙ (λ i. front i ++ back i)
 
 -- Properties of every record
 
@@ -289,6 +309,10 @@ module _ (l : Layout) where
   pub poly-decoded : (s : List ℕ) → polyOf l s ≡ decodedPoly l (span s 0 (records s))
   unfolding polyOf
   poly-decoded s = terms-decoded s 0 (records s)
+
+  pub length-poly : (s : List ℕ) → length (polyOf l s) ≡ records s
+  unfolding polyOf
+  length-poly s = length-terms l s 0 (records s)
 
   pub poly-words-append : (f : Poly (Letters (l .count))) (zs : List ℕ) → All (λ m. fit l m ≡ true) f → polyOf l (wordsOf l f ++ zs) ≡ f ++ polyOf l zs
   poly-words-append f zs a =
