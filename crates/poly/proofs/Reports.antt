@@ -8,13 +8,17 @@
 --   fold-tells       the first report that refuses is the one told
 --   fold-refused     a fold that refuses answers the same, whatever stands last
 --   fold-append      a fold over two lists, one after the other
---   Other n rs       no report of rs has the number n
---   fold-told        where a fold tells the number of one of its reports and of no other, all before it passed and it is told
-use Prim.Native.Nat.{ℕ}
-use mathlib.Core.Path.{_≡_, refl, sym, _∙_, ap}
+--   Own n r          the report r has no number but 0 and n
+--   Ascending i rs   the reports of rs have the numbers i, i + 1, .. of their own
+--   fold-told        a fold of such reports tells the one with a given number just where it is due and all before it passed
+use Prim.Native.Nat.{ℕ, suc, _+_, _≤_, _<_}
+use mathlib.Core.Path.{_≡_, refl, sym, _∙_, ap, subst}
 use mathlib.Core.Bool.{Bool, true, false}
 use mathlib.Core.List.{List, [], _∷_, _++_}
+use mathlib.Core.Logic.{_↔_}
+use native.Mathlib.Omega.{arith}
 use lib.Dec.{eqb}
+use lib.ListN.{length}
 use borrow.Author.Tests.{eqb-true, eqb-false, eq-eqb, ne-eqb}
 use Rattle.algebra.specs.Residues.{pick}
 use Rattle.poly.specs.Reports.{orElse, firstOr}
@@ -82,9 +86,33 @@ fold-refused (r ∷ rs) a b e n = go (eqb (r .number) 0) refl (fold-refused rs a
 
 -- The report that a number told stands for
 
-abbrev pub Other : ℕ → List Report → Type 0
+pub record Own (n : ℕ) (r : Report) : Type 0 where
+  pub other : (k : ℕ) → 0 < k → (n ≡ k → ⊥) → r .number ≡ k → ⊥
+
+abbrev pub Ascending : ℕ → List Report → Type 0
+Ascending i [] = Unit {0}
+Ascending i (r ∷ rs) = Own i r × Ascending (suc i) rs
+
+-- no report of rs has the number n
+abbrev Other : ℕ → List Report → Type 0
 Other n [] = Unit {0}
 Other n (r ∷ rs) = (r .number ≡ n → ⊥) × Other n rs
+
+below-other : (i n : ℕ) (rs : List Report) → Ascending i rs → 0 < n → i + length rs ≤ n → Other n rs
+below-other i n [] a h k = tt
+below-other i n (r ∷ rs) a h k = (a .0 .other n h (λ e. omega arith), below-other (suc i) n rs (a .1) h (omega arith))
+
+above-other : (i n : ℕ) (rs : List Report) → Ascending i rs → 0 < n → n < i → Other n rs
+above-other i n [] a h k = tt
+above-other i n (r ∷ rs) a h k = (a .0 .other n h (λ e. omega arith), above-other (suc i) n rs (a .1) h (omega arith))
+
+ascending-before : (i : ℕ) (rs ss : List Report) → Ascending i (rs ++ ss) → Ascending i rs
+ascending-before i [] ss a = tt
+ascending-before i (r ∷ rs) ss a = (a .0, ascending-before (suc i) rs ss (a .1))
+
+ascending-after : (i n : ℕ) (rs ss : List Report) → i + length rs ≡ n → Ascending i (rs ++ ss) → Ascending n ss
+ascending-after i n [] ss e a = let d : i ≡ n = omega arith in subst (λ x. Ascending x ss) d a
+ascending-after i n (r ∷ rs) ss e a = ascending-after (suc i) n rs ss (omega arith) (a .1)
 
 other-passed : (n : ℕ) (rs : List Report) (otherwise : Report) → Other n rs → firstOr rs otherwise .number ≡ n → Passed rs
 other-passed n [] otherwise h e = tt
@@ -94,8 +122,8 @@ other-passed n (r ∷ rs) otherwise h e = go (eqb (r .number) 0) refl e (other-p
     go true f k rest = (eqb-true (r .number) 0 f, rest k)
     go false f k rest = absurd (h .0 k)
 
-pub fold-told : (n : ℕ) (before : List Report) (r : Report) (after : List Report) (otherwise : Report) → Other n before → Other n after → (otherwise .number ≡ n → ⊥) → firstOr (before ++ r ∷ after) otherwise .number ≡ n → Passed before × (firstOr (before ++ r ∷ after) otherwise ≡ r)
-fold-told n before r after otherwise hb ha ho e =
+other-told : (n : ℕ) (before : List Report) (r : Report) (after : List Report) (otherwise : Report) → Other n before → Other n after → (otherwise .number ≡ n → ⊥) → firstOr (before ++ r ∷ after) otherwise .number ≡ n → Passed before × (firstOr (before ++ r ∷ after) otherwise ≡ r)
+other-told n before r after otherwise hb ha ho e =
     let append = fold-append before (r ∷ after) otherwise in
     let k : firstOr before (firstOr (r ∷ after) otherwise) .number ≡ n = ap (λ (x : Report). x .number) (sym append) ∙ e in
     let passed = other-passed n before (firstOr (r ∷ after) otherwise) hb k in
@@ -105,3 +133,14 @@ fold-told n before r after otherwise hb ha ho e =
     go : (t : Bool) → eqb (r .number) 0 ≡ t → pick t (firstOr after otherwise) r .number ≡ n → pick t (firstOr after otherwise) r ≡ r
     go true f k = absurd (ho (ap (λ (x : Report). x .number) (sym (passed-fold after otherwise (other-passed n after otherwise ha k))) ∙ k))
     go false f k = refl
+
+pub fold-told : (before : List Report) (r : Report) (after : List Report) (otherwise told : Report) → Ascending 1 (before ++ r ∷ after) → otherwise .number ≡ 0 → told .number ≡ suc (length before) → (firstOr (before ++ r ∷ after) otherwise ≡ told) ↔ (Passed before × (r ≡ told))
+fold-told before r after otherwise told a z e =
+    let n = suc (length before) in
+    let lower = below-other 1 n before (ascending-before 1 before (r ∷ after) a) (omega arith) (omega arith) in
+    let higher = above-other (suc n) n after (ascending-after 1 n before (r ∷ after) (omega arith) a .1) (omega arith) (omega arith) in (
+      λ f.
+          let t = other-told n before r after otherwise lower higher (λ q. omega arith) (ap (λ (x : Report). x .number) f ∙ e) in
+          (t .0, sym (t .1) ∙ f),
+      λ h. fold-tells before r after otherwise (h .0) (λ q. omega (arith, ap (λ (x : Report). x .number) (h .1))) ∙ h .1,
+    )

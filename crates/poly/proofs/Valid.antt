@@ -5,11 +5,11 @@
 --   Each P slices      every one of some lent slices has the property P
 --   Accepted p inputs outputs      what the rules 1 to 6 ask of a call together
 --   FirstOf t count i  i is the first of `count` terms that the test t finds at fault
---   unless-passed, passed-unless, unless-tells, unless-told, unless-other      of a rule that tests a slice as a whole
---   found-passed, passed-found, found-tells, found-told, found-other           of a rule that tests each term
+--   unless-passed, passed-unless, unless-tells, unless-told, unless-own      of a rule that tests a slice as a whole
+--   found-passed, passed-found, found-tells, found-told, found-own           of a rule that tests each term
 --   NAME-passed        the report of the rule NAME has the number 0, so what it asks holds
 --   passed-NAME        what the rule NAME asks holds, so it answers `none`
---   NAME-other         the report of the rule NAME has no number but 0 and its own
+--   NAME-own           the report of the rule NAME has no number but 0 and its own
 --   shapes-passed, passed-shapes             the same of 2 and 3 over some lent slices
 --   refusals-accepted, accepted-refusals     the same of 1 to 6 over a call
 --   fold-accepted      a call whose fold refuses nothing is Accepted, and the rules after 6 passed too
@@ -56,7 +56,7 @@ use Rattle.poly.specs.Rules.{
 use Rattle.poly.specs.Services.{asInput, checkOf}
 use Rattle.poly.specs.Valid.{Valid}
 use Rattle.poly.specs.declared.report.Report.{Report}
-use Rattle.poly.proofs.Reports.{Passed, passed-append, append-passed, fold-append, fold-passed, passed-fold, fold-tells, fold-told}
+use Rattle.poly.proofs.Reports.{Own, Ascending, Passed, passed-append, append-passed, fold-append, fold-passed, passed-fold, fold-told}
 
 pub record Shaped (s : Lent) : Type 0 where
   pub even : length (s .words) ≡ 2 * records (s .words)
@@ -80,6 +80,9 @@ pub record FirstOf (t : ℕ → Bool) (count i : ℕ) : Type 0 where
   pub holds : t i ≡ true
   pub before : (j : ℕ) → j < i → t j ≡ false
 
+number-of : {a b : Report} → a ≡ b → a .number ≡ b .number
+number-of e = ap (λ (r : Report). r .number) e
+
 -- A rule that tests a slice as a whole
 
 module _ (passed : Bool) (n operand : ℕ) where
@@ -97,9 +100,9 @@ pub unless-told : (passed : Bool) (n operand : ℕ) → 0 < n → unless passed 
 unless-told true n operand h e = absurd (omega arith)
 unless-told false n operand h e = refl
 
-pub unless-other : (passed : Bool) (n operand k : ℕ) → 0 < k → (n ≡ k → ⊥) → unless passed n operand .number ≡ k → ⊥
-unless-other true n operand k h f e = omega arith
-unless-other false n operand k h f e = f e
+pub unless-own : (passed : Bool) (n operand : ℕ) → Own n (unless passed n operand)
+unless-own true n operand = record { other = λ k h f e. omega arith }
+unless-own false n operand = record { other = λ k h f e. f e }
 
 -- A rule that tests each term
 
@@ -139,12 +142,12 @@ module _ (t : ℕ → Bool) (n operand count : ℕ) where
           }
       go false f z = absurd (let y : 0 ≡ n = ap (λ (r : Report). r .number) z in omega arith)
 
-  pub found-other : (k : ℕ) → 0 < k → (n ≡ k → ⊥) → found t n operand count .number ≡ k → ⊥
-  found-other k h f e = go (ltb (first t 0 count) count) e
+  pub found-own : Own n (found t n operand count)
+  found-own = go (ltb (first t 0 count) count)
     where
-      go : (b : Bool) → pick b (refusal n operand (first t 0 count)) none .number ≡ k → ⊥
-      go true z = f z
-      go false z = omega arith
+      go : (b : Bool) → Own n (pick b (refusal n operand (first t 0 count)) none)
+      go true = record { other = λ k h f e. f e }
+      go false = record { other = λ k h f e. omega arith }
 
 -- The rules one by one
 
@@ -157,9 +160,9 @@ module _ (p : ℕ) where
   unfolding modulusRule
   passed-modulus h = passed-unless (isModulus p) 1 0 h
 
-  pub modulus-other : (k : ℕ) → 0 < k → (1 ≡ k → ⊥) → modulusRule p .number ≡ k → ⊥
+  pub modulus-own : Own 1 (modulusRule p)
   unfolding modulusRule
-  modulus-other k = unless-other (isModulus p) 1 0 k
+  modulus-own = unless-own (isModulus p) 1 0
 
 module _ (operand : ℕ) (s : List ℕ) where
   pub odd-passed : oddRule operand s .number ≡ 0 → length s ≡ 2 * records s
@@ -172,9 +175,9 @@ module _ (operand : ℕ) (s : List ℕ) where
   unfolding oddRule
   passed-odd h = passed-unless (eqb (length s % 2) 0) 2 operand (eq-eqb (length s % 2) 0 (omega arith))
 
-  pub odd-other : (k : ℕ) → 0 < k → (2 ≡ k → ⊥) → oddRule operand s .number ≡ k → ⊥
+  pub odd-own : Own 2 (oddRule operand s)
   unfolding oddRule
-  odd-other k = unless-other (eqb (length s % 2) 0) 2 operand k
+  odd-own = unless-own (eqb (length s % 2) 0) 2 operand
 
   module _ (most : ℕ) where
     pub long-passed : longRule most operand s .number ≡ 0 → records s ≤ most
@@ -185,9 +188,9 @@ module _ (operand : ℕ) (s : List ℕ) where
     unfolding longRule
     passed-long h = passed-unless (leb (records s) most) 3 operand (le-leb (records s) most h)
 
-    pub long-other : (k : ℕ) → 0 < k → (3 ≡ k → ⊥) → longRule most operand s .number ≡ k → ⊥
+    pub long-own : Own 3 (longRule most operand s)
     unfolding longRule
-    long-other k = unless-other (leb (records s) most) 3 operand k
+    long-own = unless-own (leb (records s) most) 3 operand
 
   pub guard-passed : guardRule base operand s .number ≡ 0 → (i : ℕ) → i < records s → isMonomial base (wordAt s i) ≡ true
   unfolding guardRule guardAt
@@ -197,9 +200,9 @@ module _ (operand : ℕ) (s : List ℕ) where
   unfolding guardRule guardAt
   passed-guard f = passed-found (guardAt base s) 4 operand (records s) (λ i h. ap not (f i h))
 
-  pub guard-other : (k : ℕ) → 0 < k → (4 ≡ k → ⊥) → guardRule base operand s .number ≡ k → ⊥
+  pub guard-own : Own 4 (guardRule base operand s)
   unfolding guardRule
-  guard-other k = found-other (guardAt base s) 4 operand (records s) k
+  guard-own = found-own (guardAt base s) 4 operand (records s)
 
   pub order-passed : orderRule operand s .number ≡ 0 → (i : ℕ) → suc i < records s → wordAt s (suc i) < wordAt s i
   unfolding orderRule orderAt
@@ -214,9 +217,9 @@ module _ (operand : ℕ) (s : List ℕ) where
   unfolding orderRule
   passed-order f = passed-found (orderAt s) 5 operand (records s) (order-fails f)
 
-  pub order-other : (k : ℕ) → 0 < k → (5 ≡ k → ⊥) → orderRule operand s .number ≡ k → ⊥
+  pub order-own : Own 5 (orderRule operand s)
   unfolding orderRule
-  order-other k = found-other (orderAt s) 5 operand (records s) k
+  order-own = found-own (orderAt s) 5 operand (records s)
 
   module _ (p : ℕ) where
     pub number-passed : numberRule p operand s .number ≡ 0 → (i : ℕ) → i < records s → (0 < numberAt s i) × (numberAt s i < p)
@@ -235,9 +238,9 @@ module _ (operand : ℕ) (s : List ℕ) where
         let a : eqb (numberAt s i) 0 ≡ false = ne-eqb (numberAt s i) 0 (λ e. omega (arith, k .0)) in
         λ d. a d || lt-leb p (numberAt s i) (k .1) d)
 
-    pub number-other : (k : ℕ) → 0 < k → (6 ≡ k → ⊥) → numberRule p operand s .number ≡ k → ⊥
+    pub number-own : Own 6 (numberRule p operand s)
     unfolding numberRule
-    number-other k = found-other (badNumberAt p s) 6 operand (records s) k
+    number-own = found-own (badNumberAt p s) 6 operand (records s)
 
 module _ (g : List ℕ) where
   pub divisor-passed : divisorRule g .number ≡ 0 → 0 < records g
@@ -274,7 +277,7 @@ module _ (P : Lent → Type 0) where
 
   pub passed-rules : (rule : Lent → Report) → ((s : Lent) → P s → rule s ≡ none) → (slices : List Lent) → Each P slices → Passed (map rule slices)
   passed-rules rule f [] h = tt
-  passed-rules rule f (s ∷ slices) h = (ap (λ (r : Report). r .number) (f s (h .0)), passed-rules rule f slices (h .1))
+  passed-rules rule f (s ∷ slices) h = (number-of (f s (h .0)), passed-rules rule f slices (h .1))
 
 module _ (P Q : Lent → Type 0) where
   pub each-map : ((s : Lent) → P s → Q s) → (slices : List Lent) → Each P slices → Each Q slices
@@ -358,7 +361,7 @@ module _ (p : ℕ) (inputs outputs : List Lent) where
   accepted-refusals a =
       let terms = each-map (λ s. Input p s) (λ s. Terms p s) (λ s f. record { monomials = f .valid .monomials; falls = f .valid .falls; numbers = f .valid .numbers }) inputs (a .ins) in
       let shaped = each-map (λ s. Input p s) (λ s. Shaped s) (λ s f. record { even = f .valid .even; short = f .short }) inputs (a .ins) in (
-        ap (λ (r : Report). r .number) (passed-modulus p (a .modulus)),
+        number-of (passed-modulus p (a .modulus)),
         append-passed (shapeRules (inputs ++ outputs) ++ orderRules base inputs) (numberRules p inputs)
             (append-passed (shapeRules (inputs ++ outputs)) (orderRules base inputs)
             (passed-shapes (inputs ++ outputs) (append-each (λ s. Shaped s) inputs outputs shaped (a .outs)))
@@ -392,127 +395,58 @@ module _ (p : ℕ) (s : List ℕ) where
     λ e.
         let a = refusals-accepted p (asInput s ∷ []) [] (fold-passed (refusals base p (asInput s ∷ []) []) (done (records s) 0) e .0) in
         (a .modulus, a .ins .0 .valid, a .ins .0 .short),
-    λ h. ap (λ (r : Report). r .number) (check-passed h),
+    λ h. number-of (check-passed h),
   )
 
   -- The check tells a refusal just where its rule says so and none of a lower number is due
 
+  rules-own : Ascending 1 (modulusRule p ∷ oddRule 1 s ∷ longRule inputTerms 1 s ∷ guardRule base 1 s ∷ orderRule 1 s ∷ numberRule p 1 s ∷ [])
+  rules-own = (modulus-own p, (odd-own 1 s, (long-own 1 s inputTerms, (guard-own 1 s, (order-own 1 s, (number-own 1 s p, tt))))))
+
   pub check-tells-1 : (checkOf p s ≡ refusal 1 0 0) ↔ ((isModulus p ≡ false))
   unfolding checkOf modulusRule
-  check-tells-1 = (
-    λ e.
-        let f =
-        fold-told 1 ([]) (modulusRule p) (oddRule 1 s ∷ longRule inputTerms 1 s ∷ guardRule base 1 s ∷ orderRule 1 s ∷ numberRule p 1 s ∷ []) (done (records s) 0)
-        tt
-        (odd-other 1 s 1 (omega arith) (λ z. omega arith), (long-other 1 s inputTerms 1 (omega arith) (λ z. omega arith), (guard-other 1 s 1 (omega arith) (λ z. omega arith), (order-other 1 s 1 (omega arith) (λ z. omega arith), (number-other 1 s p 1 (omega arith) (λ z. omega arith), (tt))))))
-        (λ z. omega arith)
-        (ap (λ (r : Report). r .number) e)
-        in
-        unless-told (isModulus p) 1 0 (omega arith) (ap (λ (r : Report). r .number) (sym (f .1) ∙ e)),
-    λ h.
-        let told : modulusRule p ≡ refusal 1 0 0 = unless-tells (isModulus p) 1 0 h in
-        fold-tells ([]) (modulusRule p) (oddRule 1 s ∷ longRule inputTerms 1 s ∷ guardRule base 1 s ∷ orderRule 1 s ∷ numberRule p 1 s ∷ []) (done (records s) 0)
-        tt
-        (λ z. omega (arith, ap (λ (r : Report). r .number) told))
-        ∙ told,
-  )
+  check-tells-1 =
+      let d = fold-told ([]) (modulusRule p) (oddRule 1 s ∷ longRule inputTerms 1 s ∷ guardRule base 1 s ∷ orderRule 1 s ∷ numberRule p 1 s ∷ []) (done (records s) 0) (refusal 1 0 0) rules-own refl refl in (
+        λ e. let f = d .0 e in unless-told (isModulus p) 1 0 (omega arith) (number-of (f .1)),
+        λ h. d .1 (tt, unless-tells (isModulus p) 1 0 h),
+      )
 
   pub check-tells-2 : (checkOf p s ≡ refusal 2 1 0) ↔ ((isModulus p ≡ true) × (length s % 2 ≡ 1))
   unfolding checkOf oddRule
-  check-tells-2 = (
-    λ e.
-        let f =
-        fold-told 2 (modulusRule p ∷ []) (oddRule 1 s) (longRule inputTerms 1 s ∷ guardRule base 1 s ∷ orderRule 1 s ∷ numberRule p 1 s ∷ []) (done (records s) 0)
-        (modulus-other p 2 (omega arith) (λ z. omega arith), (tt))
-        (long-other 1 s inputTerms 2 (omega arith) (λ z. omega arith), (guard-other 1 s 2 (omega arith) (λ z. omega arith), (order-other 1 s 2 (omega arith) (λ z. omega arith), (number-other 1 s p 2 (omega arith) (λ z. omega arith), (tt)))))
-        (λ z. omega arith)
-        (ap (λ (r : Report). r .number) e)
-        in
-        (modulus-passed p (f .0 .0), let z : length s % 2 ≡ 0 → ⊥ = eqb-false (length s % 2) 0 (unless-told (eqb (length s % 2) 0) 2 1 (omega arith) (ap (λ (r : Report). r .number) (sym (f .1) ∙ e))) in omega arith),
-    λ h.
-        let told : oddRule 1 s ≡ refusal 2 1 0 = unless-tells (eqb (length s % 2) 0) 2 1 (ne-eqb (length s % 2) 0 (λ z. omega (arith, h .1))) in
-        fold-tells (modulusRule p ∷ []) (oddRule 1 s) (longRule inputTerms 1 s ∷ guardRule base 1 s ∷ orderRule 1 s ∷ numberRule p 1 s ∷ []) (done (records s) 0)
-        (ap (λ (r : Report). r .number) (passed-modulus p (h .0)), (tt))
-        (λ z. omega (arith, ap (λ (r : Report). r .number) told))
-        ∙ told,
-  )
+  check-tells-2 =
+      let d = fold-told (modulusRule p ∷ []) (oddRule 1 s) (longRule inputTerms 1 s ∷ guardRule base 1 s ∷ orderRule 1 s ∷ numberRule p 1 s ∷ []) (done (records s) 0) (refusal 2 1 0) rules-own refl refl in (
+        λ e. let f = d .0 e in (modulus-passed p (f .0 .0), let z : length s % 2 ≡ 0 → ⊥ = eqb-false (length s % 2) 0 (unless-told (eqb (length s % 2) 0) 2 1 (omega arith) (number-of (f .1))) in omega arith),
+        λ h. d .1 ((number-of (passed-modulus p (h .0)), tt), unless-tells (eqb (length s % 2) 0) 2 1 (ne-eqb (length s % 2) 0 (λ z. omega (arith, h .1)))),
+      )
 
   pub check-tells-3 : (checkOf p s ≡ refusal 3 1 0) ↔ ((isModulus p ≡ true) × (length s ≡ 2 * records s) × (inputTerms < records s))
   unfolding checkOf longRule
-  check-tells-3 = (
-    λ e.
-        let f =
-        fold-told 3 (modulusRule p ∷ oddRule 1 s ∷ []) (longRule inputTerms 1 s) (guardRule base 1 s ∷ orderRule 1 s ∷ numberRule p 1 s ∷ []) (done (records s) 0)
-        (modulus-other p 3 (omega arith) (λ z. omega arith), (odd-other 1 s 3 (omega arith) (λ z. omega arith), (tt)))
-        (guard-other 1 s 3 (omega arith) (λ z. omega arith), (order-other 1 s 3 (omega arith) (λ z. omega arith), (number-other 1 s p 3 (omega arith) (λ z. omega arith), (tt))))
-        (λ z. omega arith)
-        (ap (λ (r : Report). r .number) e)
-        in
-        (modulus-passed p (f .0 .0), odd-passed 1 s (f .0 .1 .0), leb-false (records s) inputTerms (unless-told (leb (records s) inputTerms) 3 1 (omega arith) (ap (λ (r : Report). r .number) (sym (f .1) ∙ e)))),
-    λ h.
-        let told : longRule inputTerms 1 s ≡ refusal 3 1 0 = unless-tells (leb (records s) inputTerms) 3 1 (lt-leb (records s) inputTerms (h .2)) in
-        fold-tells (modulusRule p ∷ oddRule 1 s ∷ []) (longRule inputTerms 1 s) (guardRule base 1 s ∷ orderRule 1 s ∷ numberRule p 1 s ∷ []) (done (records s) 0)
-        (ap (λ (r : Report). r .number) (passed-modulus p (h .0)), (ap (λ (r : Report). r .number) (passed-odd 1 s (h .1)), (tt)))
-        (λ z. omega (arith, ap (λ (r : Report). r .number) told))
-        ∙ told,
-  )
+  check-tells-3 =
+      let d = fold-told (modulusRule p ∷ oddRule 1 s ∷ []) (longRule inputTerms 1 s) (guardRule base 1 s ∷ orderRule 1 s ∷ numberRule p 1 s ∷ []) (done (records s) 0) (refusal 3 1 0) rules-own refl refl in (
+        λ e. let f = d .0 e in (modulus-passed p (f .0 .0), odd-passed 1 s (f .0 .1 .0), leb-false (records s) inputTerms (unless-told (leb (records s) inputTerms) 3 1 (omega arith) (number-of (f .1)))),
+        λ h. d .1 ((number-of (passed-modulus p (h .0)), (number-of (passed-odd 1 s (h .1)), tt)), unless-tells (leb (records s) inputTerms) 3 1 (lt-leb (records s) inputTerms (h .2))),
+      )
 
   pub check-tells-4 : (i : ℕ) → (checkOf p s ≡ refusal 4 1 i) ↔ ((isModulus p ≡ true) × (length s ≡ 2 * records s) × (records s ≤ inputTerms) × FirstOf (guardAt base s) (records s) i)
   unfolding checkOf guardRule
-  check-tells-4 i = (
-    λ e.
-        let f =
-        fold-told 4 (modulusRule p ∷ oddRule 1 s ∷ longRule inputTerms 1 s ∷ []) (guardRule base 1 s) (orderRule 1 s ∷ numberRule p 1 s ∷ []) (done (records s) 0)
-        (modulus-other p 4 (omega arith) (λ z. omega arith), (odd-other 1 s 4 (omega arith) (λ z. omega arith), (long-other 1 s inputTerms 4 (omega arith) (λ z. omega arith), (tt))))
-        (order-other 1 s 4 (omega arith) (λ z. omega arith), (number-other 1 s p 4 (omega arith) (λ z. omega arith), (tt)))
-        (λ z. omega arith)
-        (ap (λ (r : Report). r .number) e)
-        in
-        (modulus-passed p (f .0 .0), odd-passed 1 s (f .0 .1 .0), long-passed 1 s inputTerms (f .0 .1 .1 .0), found-told (guardAt base s) 4 1 (records s) i (omega arith) (sym (f .1) ∙ e)),
-    λ h.
-        let told : guardRule base 1 s ≡ refusal 4 1 i = found-tells (guardAt base s) 4 1 (records s) i (h .3) in
-        fold-tells (modulusRule p ∷ oddRule 1 s ∷ longRule inputTerms 1 s ∷ []) (guardRule base 1 s) (orderRule 1 s ∷ numberRule p 1 s ∷ []) (done (records s) 0)
-        (ap (λ (r : Report). r .number) (passed-modulus p (h .0)), (ap (λ (r : Report). r .number) (passed-odd 1 s (h .1)), (ap (λ (r : Report). r .number) (passed-long 1 s inputTerms (h .2)), (tt))))
-        (λ z. omega (arith, ap (λ (r : Report). r .number) told))
-        ∙ told,
-  )
+  check-tells-4 i =
+      let d = fold-told (modulusRule p ∷ oddRule 1 s ∷ longRule inputTerms 1 s ∷ []) (guardRule base 1 s) (orderRule 1 s ∷ numberRule p 1 s ∷ []) (done (records s) 0) (refusal 4 1 i) rules-own refl refl in (
+        λ e. let f = d .0 e in (modulus-passed p (f .0 .0), odd-passed 1 s (f .0 .1 .0), long-passed 1 s inputTerms (f .0 .1 .1 .0), found-told (guardAt base s) 4 1 (records s) i (omega arith) (f .1)),
+        λ h. d .1 ((number-of (passed-modulus p (h .0)), (number-of (passed-odd 1 s (h .1)), (number-of (passed-long 1 s inputTerms (h .2)), tt))), found-tells (guardAt base s) 4 1 (records s) i (h .3)),
+      )
 
-  pub check-tells-5 : (i : ℕ) → (checkOf p s ≡ refusal 5 1 i) ↔ ((isModulus p ≡ true) × (length s ≡ 2 * records s) × (records s ≤ inputTerms) × ((i : ℕ) → i < records s → isMonomial base (wordAt s i) ≡ true) × FirstOf (orderAt s) (records s) i)
+  pub check-tells-5 : (i : ℕ) → (checkOf p s ≡ refusal 5 1 i) ↔ ((isModulus p ≡ true) × (length s ≡ 2 * records s) × (records s ≤ inputTerms) × ((j : ℕ) → j < records s → isMonomial base (wordAt s j) ≡ true) × FirstOf (orderAt s) (records s) i)
   unfolding checkOf orderRule
-  check-tells-5 i = (
-    λ e.
-        let f =
-        fold-told 5 (modulusRule p ∷ oddRule 1 s ∷ longRule inputTerms 1 s ∷ guardRule base 1 s ∷ []) (orderRule 1 s) (numberRule p 1 s ∷ []) (done (records s) 0)
-        (modulus-other p 5 (omega arith) (λ z. omega arith), (odd-other 1 s 5 (omega arith) (λ z. omega arith), (long-other 1 s inputTerms 5 (omega arith) (λ z. omega arith), (guard-other 1 s 5 (omega arith) (λ z. omega arith), (tt)))))
-        (number-other 1 s p 5 (omega arith) (λ z. omega arith), (tt))
-        (λ z. omega arith)
-        (ap (λ (r : Report). r .number) e)
-        in
-        (modulus-passed p (f .0 .0), odd-passed 1 s (f .0 .1 .0), long-passed 1 s inputTerms (f .0 .1 .1 .0), guard-passed 1 s (f .0 .1 .1 .1 .0), found-told (orderAt s) 5 1 (records s) i (omega arith) (sym (f .1) ∙ e)),
-    λ h.
-        let told : orderRule 1 s ≡ refusal 5 1 i = found-tells (orderAt s) 5 1 (records s) i (h .4) in
-        fold-tells (modulusRule p ∷ oddRule 1 s ∷ longRule inputTerms 1 s ∷ guardRule base 1 s ∷ []) (orderRule 1 s) (numberRule p 1 s ∷ []) (done (records s) 0)
-        (ap (λ (r : Report). r .number) (passed-modulus p (h .0)), (ap (λ (r : Report). r .number) (passed-odd 1 s (h .1)), (ap (λ (r : Report). r .number) (passed-long 1 s inputTerms (h .2)), (ap (λ (r : Report). r .number) (passed-guard 1 s (h .3)), (tt)))))
-        (λ z. omega (arith, ap (λ (r : Report). r .number) told))
-        ∙ told,
-  )
+  check-tells-5 i =
+      let d = fold-told (modulusRule p ∷ oddRule 1 s ∷ longRule inputTerms 1 s ∷ guardRule base 1 s ∷ []) (orderRule 1 s) (numberRule p 1 s ∷ []) (done (records s) 0) (refusal 5 1 i) rules-own refl refl in (
+        λ e. let f = d .0 e in (modulus-passed p (f .0 .0), odd-passed 1 s (f .0 .1 .0), long-passed 1 s inputTerms (f .0 .1 .1 .0), guard-passed 1 s (f .0 .1 .1 .1 .0), found-told (orderAt s) 5 1 (records s) i (omega arith) (f .1)),
+        λ h. d .1 ((number-of (passed-modulus p (h .0)), (number-of (passed-odd 1 s (h .1)), (number-of (passed-long 1 s inputTerms (h .2)), (number-of (passed-guard 1 s (h .3)), tt)))), found-tells (orderAt s) 5 1 (records s) i (h .4)),
+      )
 
-  pub check-tells-6 : (i : ℕ) → (checkOf p s ≡ refusal 6 1 i) ↔ ((isModulus p ≡ true) × (length s ≡ 2 * records s) × (records s ≤ inputTerms) × ((i : ℕ) → i < records s → isMonomial base (wordAt s i) ≡ true) × ((i : ℕ) → suc i < records s → wordAt s (suc i) < wordAt s i) × FirstOf (badNumberAt p s) (records s) i)
+  pub check-tells-6 : (i : ℕ) → (checkOf p s ≡ refusal 6 1 i) ↔ ((isModulus p ≡ true) × (length s ≡ 2 * records s) × (records s ≤ inputTerms) × ((j : ℕ) → j < records s → isMonomial base (wordAt s j) ≡ true) × ((j : ℕ) → suc j < records s → wordAt s (suc j) < wordAt s j) × FirstOf (badNumberAt p s) (records s) i)
   unfolding checkOf numberRule
-  check-tells-6 i = (
-    λ e.
-        let f =
-        fold-told 6 (modulusRule p ∷ oddRule 1 s ∷ longRule inputTerms 1 s ∷ guardRule base 1 s ∷ orderRule 1 s ∷ []) (numberRule p 1 s) ([]) (done (records s) 0)
-        (modulus-other p 6 (omega arith) (λ z. omega arith), (odd-other 1 s 6 (omega arith) (λ z. omega arith), (long-other 1 s inputTerms 6 (omega arith) (λ z. omega arith), (guard-other 1 s 6 (omega arith) (λ z. omega arith), (order-other 1 s 6 (omega arith) (λ z. omega arith), (tt))))))
-        tt
-        (λ z. omega arith)
-        (ap (λ (r : Report). r .number) e)
-        in
-        (modulus-passed p (f .0 .0), odd-passed 1 s (f .0 .1 .0), long-passed 1 s inputTerms (f .0 .1 .1 .0), guard-passed 1 s (f .0 .1 .1 .1 .0), order-passed 1 s (f .0 .1 .1 .1 .1 .0), found-told (badNumberAt p s) 6 1 (records s) i (omega arith) (sym (f .1) ∙ e)),
-    λ h.
-        let told : numberRule p 1 s ≡ refusal 6 1 i = found-tells (badNumberAt p s) 6 1 (records s) i (h .5) in
-        fold-tells (modulusRule p ∷ oddRule 1 s ∷ longRule inputTerms 1 s ∷ guardRule base 1 s ∷ orderRule 1 s ∷ []) (numberRule p 1 s) ([]) (done (records s) 0)
-        (ap (λ (r : Report). r .number) (passed-modulus p (h .0)), (ap (λ (r : Report). r .number) (passed-odd 1 s (h .1)), (ap (λ (r : Report). r .number) (passed-long 1 s inputTerms (h .2)), (ap (λ (r : Report). r .number) (passed-guard 1 s (h .3)), (ap (λ (r : Report). r .number) (passed-order 1 s (h .4)), (tt))))))
-        (λ z. omega (arith, ap (λ (r : Report). r .number) told))
-        ∙ told,
-  )
+  check-tells-6 i =
+      let d = fold-told (modulusRule p ∷ oddRule 1 s ∷ longRule inputTerms 1 s ∷ guardRule base 1 s ∷ orderRule 1 s ∷ []) (numberRule p 1 s) ([]) (done (records s) 0) (refusal 6 1 i) rules-own refl refl in (
+        λ e. let f = d .0 e in (modulus-passed p (f .0 .0), odd-passed 1 s (f .0 .1 .0), long-passed 1 s inputTerms (f .0 .1 .1 .0), guard-passed 1 s (f .0 .1 .1 .1 .0), order-passed 1 s (f .0 .1 .1 .1 .1 .0), found-told (badNumberAt p s) 6 1 (records s) i (omega arith) (f .1)),
+        λ h. d .1 ((number-of (passed-modulus p (h .0)), (number-of (passed-odd 1 s (h .1)), (number-of (passed-long 1 s inputTerms (h .2)), (number-of (passed-guard 1 s (h .3)), (number-of (passed-order 1 s (h .4)), tt))))), found-tells (badNumberAt p s) 6 1 (records s) i (h .5)),
+      )
