@@ -403,10 +403,10 @@ module _ (p : ℕ) (s : List ℕ) where
   rules-own : Ascending 1 (modulusRule p ∷ oddRule 1 s ∷ longRule inputTerms 1 s ∷ guardRule base 1 s ∷ orderRule 1 s ∷ numberRule p 1 s ∷ [])
   rules-own = (modulus-own p, (odd-own 1 s, (long-own 1 s inputTerms, (guard-own 1 s, (order-own 1 s, (number-own 1 s p, tt))))))
 
-  pub check-tells-1 : (checkOf p s ≡ refusal 1 0 0) ↔ ((isModulus p ≡ false))
+  pub check-tells-1 : (checkOf p s ≡ refusal 1 0 0) ↔ (isModulus p ≡ false)
   unfolding checkOf modulusRule
   check-tells-1 =
-      let d = fold-told ([]) (modulusRule p) (oddRule 1 s ∷ longRule inputTerms 1 s ∷ guardRule base 1 s ∷ orderRule 1 s ∷ numberRule p 1 s ∷ []) (done (records s) 0) (refusal 1 0 0) rules-own refl refl in (
+      let d = fold-told [] (modulusRule p) (oddRule 1 s ∷ longRule inputTerms 1 s ∷ guardRule base 1 s ∷ orderRule 1 s ∷ numberRule p 1 s ∷ []) (done (records s) 0) (refusal 1 0 0) rules-own refl refl in (
         λ e. let f = d .0 e in unless-told (isModulus p) 1 0 (omega arith) (number-of (f .1)),
         λ h. d .1 (tt, unless-tells (isModulus p) 1 0 h),
       )
@@ -446,7 +446,7 @@ module _ (p : ℕ) (s : List ℕ) where
   pub check-tells-6 : (i : ℕ) → (checkOf p s ≡ refusal 6 1 i) ↔ ((isModulus p ≡ true) × (length s ≡ 2 * records s) × (records s ≤ inputTerms) × ((j : ℕ) → j < records s → isMonomial base (wordAt s j) ≡ true) × ((j : ℕ) → suc j < records s → wordAt s (suc j) < wordAt s j) × FirstOf (badNumberAt p s) (records s) i)
   unfolding checkOf numberRule
   check-tells-6 i =
-      let d = fold-told (modulusRule p ∷ oddRule 1 s ∷ longRule inputTerms 1 s ∷ guardRule base 1 s ∷ orderRule 1 s ∷ []) (numberRule p 1 s) ([]) (done (records s) 0) (refusal 6 1 i) rules-own refl refl in (
+      let d = fold-told (modulusRule p ∷ oddRule 1 s ∷ longRule inputTerms 1 s ∷ guardRule base 1 s ∷ orderRule 1 s ∷ []) (numberRule p 1 s) [] (done (records s) 0) (refusal 6 1 i) rules-own refl refl in (
         λ e. let f = d .0 e in (modulus-passed p (f .0 .0), odd-passed 1 s (f .0 .1 .0), long-passed 1 s inputTerms (f .0 .1 .1 .0), guard-passed 1 s (f .0 .1 .1 .1 .0), order-passed 1 s (f .0 .1 .1 .1 .1 .0), found-told (badNumberAt p s) 6 1 (records s) i (omega arith) (f .1)),
         λ h. d .1 ((number-of (passed-modulus p (h .0)), (number-of (passed-odd 1 s (h .1)), (number-of (passed-long 1 s inputTerms (h .2)), (number-of (passed-guard 1 s (h .3)), (number-of (passed-order 1 s (h .4)), tt))))), found-tells (badNumberAt p s) 6 1 (records s) i (h .5)),
       )
