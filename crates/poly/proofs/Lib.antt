@@ -1,8 +1,8 @@
 -- Laws of polynomials in memory that more than one function needs.
 pub mod Reports
 pub mod Faults
+pub mod Terms
 pub mod Valid
 pub mod Readings
-pub mod Terms
 pub mod Parts
 pub mod Determined
