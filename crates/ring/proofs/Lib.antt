@@ -7,3 +7,4 @@ pub mod Planting
 pub mod Filling
 pub mod Bursts
 pub mod Transport
+pub mod Products

@@ -28,16 +28,29 @@ array-read-if1-2 c = search needs
 
 -- the numbers that are added are the largest exponents
 first-of : (c : tie.After-b) (v : ℕ) → v < 4 → getD (c .before .before .before .measure .result .exponents) v 0 ≡ largest (exponent 4 v) (polyOf base (c .before .before .before .before .before .before .args .f .now))
-first-of c = exponents-of (c .before .before .before .measure .ensures)
+first-of c = exponents-of _ (c .before .before .before .measure .ensures)
 
 second-of : (c : tie.After-b) (v : ℕ) → v < 4 → getD (c .before .measure2 .result .exponents) v 0 ≡ largest (exponent 4 v) (polyOf base (c .before .before .before .before .before .before .args .g .now))
-second-of c = exponents-of (c .before .measure2 .ensures)
+second-of c = exponents-of _ (c .before .measure2 .ensures)
 
 add-if1 : tie.Need-add-if1
-add-if1 c = ?
+add-if1 c = omega (arith, first-of (c) 0 (lit< tt), second-of (c) 0 (lit< tt), c .before .before .before .before .before .before .pre .0 0, c .before .before .before .before .before .before .pre .1 0)
+
+-- the letters that have been tried
+small-1 : (c : tie.Else1) (k : ℕ) → k < 1 → largest (exponent 4 k) (polyOf base (c .before .before .before .before .before .before .before .args .f .now)) + largest (exponent 4 k) (polyOf base (c .before .before .before .before .before .before .before .args .g .now)) ≤ 32767
+small-1 c = below-more _ 0 (below-none _) (omega (arith, first-of (c .before) 0 (lit< tt), second-of (c .before) 0 (lit< tt), c .if1 .left))
+
+small-2 : (c : tie.Else2) (k : ℕ) → k < 2 → largest (exponent 4 k) (polyOf base (c .before .before .before .before .before .before .before .before .args .f .now)) + largest (exponent 4 k) (polyOf base (c .before .before .before .before .before .before .before .before .args .g .now)) ≤ 32767
+small-2 c = below-more _ 1 (small-1 (c .before)) (omega (arith, first-of (c .before .before) 1 (lit< tt), second-of (c .before .before) 1 (lit< tt), c .if2 .left))
+
+small-3 : (c : tie.Else3) (k : ℕ) → k < 3 → largest (exponent 4 k) (polyOf base (c .before .before .before .before .before .before .before .before .before .args .f .now)) + largest (exponent 4 k) (polyOf base (c .before .before .before .before .before .before .before .before .before .args .g .now)) ≤ 32767
+small-3 c = below-more _ 2 (small-2 (c .before)) (omega (arith, first-of (c .before .before .before) 2 (lit< tt), second-of (c .before .before .before) 2 (lit< tt), c .if3 .left))
+
+small-4 : (c : tie.Else4) (k : ℕ) → k < 4 → largest (exponent 4 k) (polyOf base (c .before .before .before .before .before .before .before .before .before .before .args .f .now)) + largest (exponent 4 k) (polyOf base (c .before .before .before .before .before .before .before .before .before .before .args .g .now)) ≤ 32767
+small-4 c = below-more _ 3 (small-3 (c .before)) (omega (arith, first-of (c .before .before .before .before) 3 (lit< tt), second-of (c .before .before .before .before) 3 (lit< tt), c .if4 .left))
 
 returns : tie.Need-returns
-returns c = ?
+returns c = sym (burst-found (polyOf base (c .before .before .before .before .before .before .before .args .f .now)) (polyOf base (c .before .before .before .before .before .before .before .args .g .now)) 0 (lit< tt) (below-none _) (omega (arith, first-of (c .before) 0 (lit< tt), second-of (c .before) 0 (lit< tt), c .if1 .taken)))
 
 array-read-if2 : tie.Need-array-read-if2
 array-read-if2 c = search needs
@@ -46,10 +59,10 @@ array-read-if2-2 : tie.Need-array-read-if2-2
 array-read-if2-2 c = search needs
 
 add-if2 : tie.Need-add-if2
-add-if2 c = ?
+add-if2 c = omega (arith, first-of (c .before) 1 (lit< tt), second-of (c .before) 1 (lit< tt), c .before .before .before .before .before .before .before .pre .0 1, c .before .before .before .before .before .before .before .pre .1 1)
 
 returns-2 : tie.Need-returns-2
-returns-2 c = ?
+returns-2 c = sym (burst-found (polyOf base (c .before .before .before .before .before .before .before .before .args .f .now)) (polyOf base (c .before .before .before .before .before .before .before .before .args .g .now)) 1 (lit< tt) (small-1 (c .before)) (omega (arith, first-of (c .before .before) 1 (lit< tt), second-of (c .before .before) 1 (lit< tt), c .if2 .taken)))
 
 array-read-if3 : tie.Need-array-read-if3
 array-read-if3 c = search needs
@@ -58,10 +71,10 @@ array-read-if3-2 : tie.Need-array-read-if3-2
 array-read-if3-2 c = search needs
 
 add-if3 : tie.Need-add-if3
-add-if3 c = ?
+add-if3 c = omega (arith, first-of (c .before .before) 2 (lit< tt), second-of (c .before .before) 2 (lit< tt), c .before .before .before .before .before .before .before .before .pre .0 2, c .before .before .before .before .before .before .before .before .pre .1 2)
 
 returns-3 : tie.Need-returns-3
-returns-3 c = ?
+returns-3 c = sym (burst-found (polyOf base (c .before .before .before .before .before .before .before .before .before .args .f .now)) (polyOf base (c .before .before .before .before .before .before .before .before .before .args .g .now)) 2 (lit< tt) (small-2 (c .before)) (omega (arith, first-of (c .before .before .before) 2 (lit< tt), second-of (c .before .before .before) 2 (lit< tt), c .if3 .taken)))
 
 array-read-if4 : tie.Need-array-read-if4
 array-read-if4 c = search needs
@@ -70,13 +83,13 @@ array-read-if4-2 : tie.Need-array-read-if4-2
 array-read-if4-2 c = search needs
 
 add-if4 : tie.Need-add-if4
-add-if4 c = ?
+add-if4 c = omega (arith, first-of (c .before .before .before) 3 (lit< tt), second-of (c .before .before .before) 3 (lit< tt), c .before .before .before .before .before .before .before .before .before .pre .0 3, c .before .before .before .before .before .before .before .before .before .pre .1 3)
 
 returns-4 : tie.Need-returns-4
-returns-4 c = ?
+returns-4 c = sym (burst-found (polyOf base (c .before .before .before .before .before .before .before .before .before .before .args .f .now)) (polyOf base (c .before .before .before .before .before .before .before .before .before .before .args .g .now)) 3 (lit< tt) (small-3 (c .before)) (omega (arith, first-of (c .before .before .before .before) 3 (lit< tt), second-of (c .before .before .before .before) 3 (lit< tt), c .if4 .taken)))
 
 returns-5 : tie.Need-returns-5
-returns-5 c = ?
+returns-5 c = sym (burst-none (polyOf base (c .before .before .before .before .before .before .before .before .before .before .args .f .now)) (polyOf base (c .before .before .before .before .before .before .before .before .before .before .args .g .now)) (small-4 c))
 
 pub burst-at-spec : {M : Type 1} → statement M
 burst-at-spec =

@@ -1,5 +1,7 @@
 -- `ring::product::fill` meets its contract. The loop's invariant: n records are written, and the rest waits in the tree.
 use Prim.Native.Nat.{_-_}
+use mathlib.Core.Path.{_∙_}
+use native.Mathlib.Nat.{pos-of-ne-zero}
 use native.Mathlib.Omega.{arith}
 use lib.ListN.{length-set}
 use Rattle.poly.specs.Words.{wordAt}
@@ -14,7 +16,7 @@ abbrev μ-loop : tie.MeasureT-loop
 μ-loop p rows cols room₀ work₀ n₀ room work n = wordAt work 1
 
 loop-holds : tie.Need-loop-holds Inv-loop μ-loop
-loop-holds c = ?
+loop-holds c = fill-starts _ _ _ _ _ (c .before .before .before .before .pre .1 .1)
 
 slice-read-if1 : tie.Need-slice-read-if1 Inv-loop μ-loop
 slice-read-if1 c = omega arith
@@ -23,19 +25,22 @@ slice-read-k : tie.Need-slice-read-k Inv-loop μ-loop
 slice-read-k c = omega arith
 
 take-requires : tie.Need-take-requires Inv-loop μ-loop
-take-requires c κs = ?
+take-requires c κs =
+    let s = c .before .before .before .before .before .before .before .before .before .pre in
+    ((s .0 .0, s .0 .1, pos-of-ne-zero (c .before .before .if1 .taken), s .0 .2), (s .1 .0 .1, c .before .before .before .before .loop .inv .live))
 
 add-result : tie.Need-add-result Inv-loop μ-loop
 add-result c = omega arith
 
 same-length : tie.Need-same-length Inv-loop μ-loop
-same-length c = ?
+same-length c = c .before .before .before .before .before .before .before .before .before .loop .inv .room-long
 
 same-length-2 : tie.Need-same-length-2 Inv-loop μ-loop
-same-length-2 c = ?
+same-length-2 c = c .before .before .before .before .take .ensures .as-long ∙ c .before .before .before .before .before .before .before .before .before .loop .inv .work-long
 
 returns : tie.Need-returns Inv-loop μ-loop
-returns c = ?
+returns c =
+    fill-full _ (c .before .before .before .before .before .before .before .before .before .before .before .before .before .before .pre .0 .0) _ _ (c .before .before .before .before .before .before .before .before .before .before .before .before .before .before .pre .1 .0 .0 .falls) _ _ _ _ _ _ _ (pos-of-ne-zero (c .before .before .before .before .before .before .before .if1 .taken)) (c .before .before .before .before .before .before .before .before .before .loop .inv) (c .before .before .before .before .take .ensures) (c .before .if2 .taken) (c .if3 .taken)
 
 sub-room : tie.Need-sub-room Inv-loop μ-loop
 sub-room c = omega arith
@@ -65,25 +70,27 @@ add-n : tie.Need-add-n Inv-loop μ-loop
 add-n c = omega arith
 
 loop-less : tie.Need-loop-less Inv-loop μ-loop
-loop-less c = omega arith
+loop-less c = c .before .before .before .before .take .ensures .lower (c .before .before .before .before .before .before .before .before .before .before .before .before .before .before .pre .1 .0 .0 .falls) (omega arith)
 
 loop-again : tie.Need-loop-again Inv-loop μ-loop
-loop-again c = ?
+loop-again c =
+    fill-writes _ (c .before .before .before .before .before .before .before .before .before .before .before .before .before .before .pre .0 .0) _ _ (c .before .before .before .before .before .before .before .before .before .before .before .before .before .before .pre .1 .0 .0 .falls) _ _ _ _ _ _ _ (pos-of-ne-zero (c .before .before .before .before .before .before .before .if1 .taken)) (c .before .before .before .before .before .before .before .before .before .loop .inv) (c .before .before .before .before .take .ensures) (c .before .if2 .taken) (c .if3 .left)
 
 loop-less-2 : tie.Need-loop-less-2 Inv-loop μ-loop
-loop-less-2 c = omega arith
+loop-less-2 c = c .before .before .before .take .ensures .lower (c .before .before .before .before .before .before .before .before .before .before .before .before .before .pre .1 .0 .0 .falls) (omega arith)
 
 loop-again-2 : tie.Need-loop-again-2 Inv-loop μ-loop
-loop-again-2 c = ?
+loop-again-2 c =
+    fill-skips _ (c .before .before .before .before .before .before .before .before .before .before .before .before .before .pre .0 .0) _ _ (c .before .before .before .before .before .before .before .before .before .before .before .before .before .pre .1 .0 .0 .falls) _ _ _ _ _ _ _ (pos-of-ne-zero (c .before .before .before .before .before .before .if1 .taken)) (c .before .before .before .before .before .before .before .before .loop .inv) (c .before .before .before .take .ensures) (c .if2 .left)
 
 same-length-3 : tie.Need-same-length-3 Inv-loop μ-loop
-same-length-3 c = ?
+same-length-3 c = c .before .before .loop .inv .room-long
 
 same-length-4 : tie.Need-same-length-4 Inv-loop μ-loop
-same-length-4 c = ?
+same-length-4 c = c .before .before .loop .inv .work-long
 
 returns-2 : tie.Need-returns-2 Inv-loop μ-loop
-returns-2 c = ?
+returns-2 c = fill-ends _ (c .before .before .before .before .before .before .before .pre .0 .0) _ _ (c .before .before .before .before .before .before .before .pre .1 .0 .0 .falls) _ _ _ _ _ (c .before .before .loop .inv) (c .if1 .left)
 
 pub fill-spec : {M : Type 1} → statement M
 fill-spec =
