@@ -8,3 +8,4 @@ pub mod Filling
 pub mod Bursts
 pub mod Transport
 pub mod Products
+pub mod Merging

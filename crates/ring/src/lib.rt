@@ -2,4 +2,5 @@
 pub mod inputs;
 pub mod product;
 pub mod room;
+pub mod sums;
 pub mod tree;
