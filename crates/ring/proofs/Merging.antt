@@ -4,8 +4,7 @@
 --   signed-small                 a signed coefficient is below p
 --   greatest-first, greatest-second, greatest-both      what is greatest stands in the first input, in the second, in both
 --   Merged, merge-starts, merge-skips, merge-writes     the loop: what is written, and what is left, is the normal form
---   merge-over, merge-ends       a term is due and the room is full; nothing is left
---   merge-full, merge-done       the outcome in the one case and in the other
+--   merge-full, merge-done       the two ways out: a term is due and the room is full; nothing is left
 use Prim.Native.Nat.{ℕ, zero, suc, _+_, _-_, _*_, _%_, _<_, _≤_}
 use mathlib.Core.Path.{_≡_, refl, sym, _∙_, ap, subst}
 use mathlib.Core.Bool.{Bool, true, false}
@@ -193,13 +192,13 @@ module _ (p : ℕ) (minus : Bool) (a b room₀ : List ℕ) (pos : 0 < p) where
               ∙ ap (λ (f : Poly Numbers). f ++ norm Rising p (rest p minus a b (r .first) (r .second))) (sym (span-stored room n (r .word) (r .number) (omega arith)));
         }
 
-    pub merge-over : (r .number ≡ 0 → ⊥) → n ≡ records room → records room₀ < length (norm Rising p (rest p minus a b 0 0))
+    merge-over : (r .number ≡ 0 → ⊥) → n ≡ records room → records room₀ < length (norm Rising p (rest p minus a b 0 0))
     merge-over z h =
         let f = norm Rising p (rest p minus a b (r .first) (r .second)) in
         let e : length (norm Rising p (rest p minus a b 0 0)) ≡ n + suc (length f) = ap length (term-due z) ∙ length-append (span room 0 n) (term (r .word) (r .number) ∷ f) ∙ ap (λ (x : ℕ). x + suc (length f)) (length-span room 0 n) in
         omega (arith, m .as-long)
 
-  pub merge-ends : (room : List ℕ) (i j n : ℕ) → Merged p minus a b room₀ room i j n → records a + records b ≤ i + j → norm Rising p (rest p minus a b 0 0) ≡ span room 0 n
+  merge-ends : (room : List ℕ) (i j n : ℕ) → Merged p minus a b room₀ room i j n → records a + records b ≤ i + j → norm Rising p (rest p minus a b 0 0) ≡ span room 0 n
   merge-ends room i j n m h =
       let e : rest p minus a b i j ≡ [] = (λ d. span-none a i (omega (arith, m .second-within)) d ++ signed p minus (span-none b j (omega (arith, m .first-within)) d)) ∙ none minus in
       m .result ∙ ap (λ (f : Poly Numbers). span room 0 n ++ norm Rising p f) e ∙ append-nil (span room 0 n)
@@ -221,21 +220,25 @@ module _ (p : ℕ) (minus : Bool) (a b room₀ : List ℕ) (pos : 0 < p) (v : Va
 
   result-coded : codedPoly base result ≡ norm Rising p (rest p minus a b 0 0)
   result-coded =
+      let all : (n : ℕ) → n ≡ n - 0 = λ n. omega arith in
       coded-norm p pos (polyOf base a ++ signed p minus (polyOf base b))
       (all-append (λ m. fit base m ≡ true) (polyOf base a) (signed p minus (polyOf base b)) (valid-fits p a v) (signed-all p minus (λ m. fit base m ≡ true) (polyOf base b) (valid-fits p b w)))
       ∙ ap (norm Rising p)
       (coded-append base (polyOf base a) (signed p minus (polyOf base b))
-      ∙ (λ d. valid-coded p a v d ++ (signed-coded minus (polyOf base b) ∙ ap (signed p minus) (valid-coded p b w)) d))
+      ∙ (λ d. valid-coded p a v d ++ (signed-coded minus (polyOf base b) ∙ ap (signed p minus) (valid-coded p b w)) d)
+      ∙ (λ d. span a 0 (all (records a) d) ++ signed p minus (span b 0 (all (records b) d))))
 
-  pub merge-full : (r : Report) (room s : List ℕ) → r ≡ refusal 10 0 0 → length room ≡ length room₀ → s ≡ take 0 room ++ replicate (length room - 0) 0 → records room₀ < length (norm Rising p (rest p minus a b 0 0)) → outcome r s [] ≡ inRoom result room₀ []
-  merge-full r room s e same clear h =
+  pub merge-full : (room s : List ℕ) (i j n : ℕ) (lead : Lead) (r : Report) → Merged p minus a b room₀ room i j n → Greatest p minus a b i j lead → (lead .number ≡ 0 → ⊥) → n ≡ records room₀ → r ≡ refusal 10 0 0 → s ≡ take 0 room ++ replicate (length room - 0) 0 → outcome r s [] ≡ inRoom result room₀ []
+  merge-full room s i j n lead r m g due h e clear =
+      let over : records room₀ < length (norm Rising p (rest p minus a b 0 0)) = merge-over p minus a b room₀ pos room i j n lead m g due (omega (arith, m .as-long)) in
       let count : length result ≡ length (norm Rising p (rest p minus a b 0 0)) = sym (length-coded base result) ∙ ap length result-coded in
-      (λ d. outcome (e d) ((clear ∙ ap (λ (n : ℕ). replicate n 0) same) d) [])
+      let all : length room - 0 ≡ length room₀ = omega (arith, m .as-long) in
+      (λ d. outcome (e d) ((clear ∙ ap (λ (n : ℕ). replicate n 0) all) d) [])
       ∙ room-full result room₀ [] (omega arith)
 
-  pub merge-done : (r : Report) (room s : List ℕ) (n : ℕ) → r ≡ done n 0 → length room ≡ length room₀ → n ≤ records room → s ≡ take (2 * n) room ++ replicate (length room - 2 * n) 0 → norm Rising p (rest p minus a b 0 0) ≡ span room 0 n → outcome r s [] ≡ inRoom result room₀ []
-  merge-done r room s n e same h clear all =
-      let words : codedPoly base result ≡ span room 0 n = result-coded ∙ all in
+  pub merge-done : (room s : List ℕ) (i j n : ℕ) (r : Report) → Merged p minus a b room₀ room i j n → records a + records b ≤ i + j → r ≡ done n 0 → s ≡ take (2 * n) room ++ replicate (length room - 2 * n) 0 → outcome r s [] ≡ inRoom result room₀ []
+  merge-done room s i j n r m h e clear =
+      let words : codedPoly base result ≡ span room 0 n = result-coded ∙ merge-ends p minus a b room₀ pos room i j n m h in
       let count : length result ≡ n = sym (length-coded base result) ∙ ap length words ∙ length-span room 0 n in
       (λ d. outcome (e d) (clear d) [])
-      ∙ room-done result room₀ [] room n same (omega arith) words count
+      ∙ room-done result room₀ [] room n (m .as-long) (omega (arith, m .as-long, m .written)) words count

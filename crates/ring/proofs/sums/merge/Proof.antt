@@ -1,117 +1,99 @@
+-- `ring::sums::merge` meets its contract. The loop's invariant: what is written and the normal form of what is left are the whole.
+use Prim.Native.Nat.{_+_, _-_}
+use native.Mathlib.Omega.{arith}
+use borrow.Author.Needs.{needs}
+use lib.ListN.{length, length-set}
+use Rattle.poly.specs.Words.{records}
+use Rattle.ring.proofs.Merging.{Merged, merge-starts, merge-skips, merge-writes, merge-full, merge-done}
 use Rattle.ring.proofs.sums.merge.Statement.{statement}
 use Rattle.ring.proofs.sums.merge.Tie as tie
-use Rattle.ring.proofs.sums.merge.Reads as reads
-use Rattle.ring.proofs.sums.merge.Lts as lts
-use Rattle.poly.proofs.report.done.Reads as done-reads
-use Rattle.poly.proofs.report.refusal.Reads as refusal-reads
-use Rattle.ring.proofs.room.clear.Reads as clear-reads
-use Rattle.ring.proofs.sums.greatest_left.Reads as greatest-left-reads
 
 abbrev Inv-loop : tie.InvT-loop
-Inv-loop p a b minus room₀ terms most i₀ j₀ n₀ room i j n = ?
+Inv-loop p a b minus room₀ terms most i₀ j₀ n₀ room i j n = Merged p minus a b room₀ room i j n
 
 abbrev μ-loop : tie.MeasureT-loop
-μ-loop p a b minus room₀ terms most i₀ j₀ n₀ room i j n = ?
+μ-loop p a b minus room₀ terms most i₀ j₀ n₀ room i j n = records a + records b - (i + j)
 
--- src/sums.rt:60:17
 add-terms : tie.Need-add-terms Inv-loop μ-loop
-add-terms c = ?
+add-terms c = omega arith
 
--- src/sums.rt:65:5
 loop-holds : tie.Need-loop-holds Inv-loop μ-loop
-loop-holds c = ?
+loop-holds c = merge-starts _ _ _ _ _ (c .before .before .before .pre .0 .0)
 
--- src/sums.rt:65:11
 add-loop : tie.Need-add-loop Inv-loop μ-loop
-add-loop c = ?
+add-loop c = omega arith
 
--- src/sums.rt:66:13
 greatest-left-requires : tie.Need-greatest-left-requires Inv-loop μ-loop
-greatest-left-requires c κs = ?
+greatest-left-requires c κs =
+    let m = c .before .loop .inv in
+    ((c .before .before .before .before .before .pre .0 .0, c .before .before .before .before .before .pre .0 .1, m .first-within, m .second-within, c .loop-test .taken), (c .before .before .before .before .before .pre .1 .0, c .before .before .before .before .before .pre .1 .1))
 
--- src/sums.rt:71:17
 clear-requires : tie.Need-clear-requires Inv-loop μ-loop
-clear-requires c κs = ?
+clear-requires c κs = tt
 
--- src/sums.rt:72:17
 refusal-requires : tie.Need-refusal-requires Inv-loop μ-loop
-refusal-requires c κs = ?
+refusal-requires c κs = tt
 
--- src/sums.rt:72:17
 same-length : tie.Need-same-length Inv-loop μ-loop
-same-length c = ?
+same-length c = search needs
 
--- src/sums.rt:72:17
 returns : tie.Need-returns Inv-loop μ-loop
-returns c = ?
+returns c =
+    merge-full _ _ _ _ _ (c .before .before .before .before .before .before .before .before .before .before .before .before .before .before .pre .0 .0) (c .before .before .before .before .before .before .before .before .before .before .before .before .before .before .pre .1 .0) (c .before .before .before .before .before .before .before .before .before .before .before .before .before .before .pre .1 .1) _ _ _ _ _ _ _ (c .before .before .before .before .before .before .before .before .before .before .loop .inv) (c .before .before .before .before .before .before .before .before .greatest-left .ensures) (c .before .before .before .before .before .before .if1 .taken) (c .before .before .before .before .before .if2 .taken) (c .refusal .ensures) (c .before .before .before .clear .ensures)
 
--- src/sums.rt:74:18
 mul-room : tie.Need-mul-room Inv-loop μ-loop
-mul-room c = ?
+mul-room c = omega (arith, c .before .before .before .before .before .loop .inv .as-long)
 
--- src/sums.rt:74:13
 mul-room-2 : tie.Need-mul-room-2 Inv-loop μ-loop
-mul-room-2 c = ?
+mul-room-2 c = omega (arith, c .before .before .before .before .before .loop .inv .as-long)
 
--- src/sums.rt:74:13
 slice-write-room : tie.Need-slice-write-room Inv-loop μ-loop
-slice-write-room c = ?
+slice-write-room c = omega (arith, c .before .before .before .before .before .loop .inv .as-long)
 
--- src/sums.rt:75:18
 mul-room-3 : tie.Need-mul-room-3 Inv-loop μ-loop
-mul-room-3 c = ?
+mul-room-3 c = omega (arith, c .before .before .before .before .before .loop .inv .as-long)
 
--- src/sums.rt:75:18
 add-room : tie.Need-add-room Inv-loop μ-loop
-add-room c = ?
+add-room c = omega (arith, c .before .before .before .before .before .loop .inv .as-long)
 
--- src/sums.rt:75:13
 mul-room-4 : tie.Need-mul-room-4 Inv-loop μ-loop
-mul-room-4 c = ?
+mul-room-4 c = omega (arith, c .before .before .before .before .before .loop .inv .as-long)
 
--- src/sums.rt:75:13
 slice-write-room-2 : tie.Need-slice-write-room-2 Inv-loop μ-loop
-slice-write-room-2 c = ?
+slice-write-room-2 c = simp length-set (omega (arith, c .before .before .before .before .before .loop .inv .as-long))
 
--- src/sums.rt:76:13
 add-n : tie.Need-add-n Inv-loop μ-loop
-add-n c = ?
+add-n c = omega (arith, c .before .before .before .before .before .loop .inv .as-long)
 
--- src/sums.rt:65:5
 loop-less : tie.Need-loop-less Inv-loop μ-loop
-loop-less c = ?
+loop-less c = omega (arith, c .before .before .before .greatest-left .ensures)
 
--- src/sums.rt:65:5
 loop-again : tie.Need-loop-again Inv-loop μ-loop
-loop-again c = ?
+loop-again c =
+    let m = c .before .before .before .before .before .loop .inv in
+    merge-writes _ _ _ _ _ (c .before .before .before .before .before .before .before .before .before .pre .0 .0) _ _ _ _ _ m (c .before .before .before .greatest-left .ensures) (c .before .if1 .taken) (omega (arith, m .as-long, m .written))
 
--- src/sums.rt:65:5
 loop-less-2 : tie.Need-loop-less-2 Inv-loop μ-loop
-loop-less-2 c = ?
+loop-less-2 c = omega (arith, c .before .before .greatest-left .ensures)
 
--- src/sums.rt:65:5
 loop-again-2 : tie.Need-loop-again-2 Inv-loop μ-loop
-loop-again-2 c = ?
+loop-again-2 c = merge-skips _ _ _ _ _ (c .before .before .before .before .before .before .before .before .pre .0 .0) _ _ _ _ _ (c .before .before .before .before .loop .inv) (c .before .before .greatest-left .ensures) (c .if1 .left)
 
--- src/sums.rt:79:17
 mul-clear : tie.Need-mul-clear Inv-loop μ-loop
-mul-clear c = ?
+mul-clear c = omega arith
 
--- src/sums.rt:79:5
 clear-requires-2 : tie.Need-clear-requires-2 Inv-loop μ-loop
-clear-requires-2 c κs = ?
+clear-requires-2 c κs = tt
 
--- src/sums.rt:80:5
 done-requires : tie.Need-done-requires Inv-loop μ-loop
-done-requires c κs = ?
+done-requires c κs = tt
 
--- src/sums.rt:54:1
 same-length-2 : tie.Need-same-length-2 Inv-loop μ-loop
-same-length-2 c = ?
+same-length-2 c = search needs
 
--- src/sums.rt:54:1
 returns-2 : tie.Need-returns-2 Inv-loop μ-loop
-returns-2 c = ?
+returns-2 c =
+    merge-done _ _ _ _ _ (c .before .before .before .before .before .before .before .before .before .before .pre .0 .0) (c .before .before .before .before .before .before .before .before .before .before .pre .1 .0) (c .before .before .before .before .before .before .before .before .before .before .pre .1 .1) _ _ _ _ _ _ (c .before .before .before .before .before .before .loop .inv) (c .before .before .before .before .before .loop-test .left) (c .done .ensures) (c .before .before .before .clear2 .ensures)
 
 pub merge-spec : {M : Type 1} → statement M
 merge-spec =

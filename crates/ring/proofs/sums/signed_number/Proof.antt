@@ -1,19 +1,16 @@
+-- `ring::sums::signed_number` meets its contract.
 use borrow.Author.Needs.{needs}
+use mathlib.Core.Path.{sym, _∙_, ap}
+use Rattle.ring.specs.Merging.{signedNumber}
 use Rattle.ring.proofs.sums.signed_number.Statement.{statement}
 use Rattle.ring.proofs.sums.signed_number.Tie as tie
-use Rattle.ring.proofs.sums.signed_number.Reads as reads
-use Rattle.ring.proofs.sums.signed_number.Lts as lts
-use Rattle.field.proofs.neg_mod.Reads as neg-mod-reads
 
--- src/sums.rt:137:16
 neg-mod-requires : tie.Need-neg-mod-requires
 neg-mod-requires c κs = search needs
 
--- src/sums.rt:133:1
 returns : tie.Need-returns
-returns c = ?
+returns c = c .neg-mod .ensures ∙ ap (λ x. signedNumber (c .before .before .args .p) x (c .before .before .args .c)) (sym (c .before .if1 .taken))
 
--- src/sums.rt:133:1
 returns-2 : tie.Need-returns-2
 returns-2 c = search needs
 
