@@ -9,3 +9,4 @@ pub mod Bursts
 pub mod Transport
 pub mod Products
 pub mod Merging
+pub mod Refusals

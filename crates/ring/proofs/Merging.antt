@@ -4,12 +4,14 @@
 --   signed-small                 a signed coefficient is below p
 --   greatest-first, greatest-second, greatest-both      what is greatest stands in the first input, in the second, in both
 --   Merged, merge-starts, merge-skips, merge-writes     the loop: what is written, and what is left, is the normal form
---   merge-full, merge-done       the two ways out: a term is due and the room is full; nothing is left
+--   merge-full, merge-done       its two ways out: a term is due and the room is full; nothing is left
+--   mergedOf                     sum or difference: what both calls do
+--   call-refused, call-merged    their ways out: a refusal is due; none is
 use Prim.Native.Nat.{ℕ, zero, suc, _+_, _-_, _*_, _%_, _<_, _≤_}
 use mathlib.Core.Path.{_≡_, refl, sym, _∙_, ap, subst}
 use mathlib.Core.Bool.{Bool, true, false}
 use mathlib.Core.List.{List, [], _∷_, _++_, append-assoc, append-nil}
-use native.Mathlib.Nat.{mod-lt, mod-eq-of-lt}
+use native.Mathlib.Nat.{mod-lt, mod-eq-of-lt, pos-of-ne-zero}
 use native.Mathlib.Decide.{decLt}
 use native.Mathlib.Numerals.{add-one}
 use native.Mathlib.Omega.{arith}
@@ -21,18 +23,21 @@ use Rattle.algebra.specs.Polynomials.{Term, term, Poly, Equal, negated, keep, n
 use Rattle.algebra.proofs.Residues.{same-eq, same-refl, same-sym, same-trans, same-mod, same-add, same-mul}
 use Rattle.algebra.proofs.Totals.{total, total-append, equal-by}
 use Rattle.algebra.proofs.NormalForm.{all-append, below-trans, equal-refl, extract}
+use Rattle.algebra.proofs.Leads.{keep-positive}
 use Rattle.field.proofs.Laws.{negative-same}
 use Rattle.monomial.specs.Layout.{base}
 use Rattle.monomial.proofs.Laws.{fit}
 use Rattle.poly.specs.Words.{records, wordAt, numberAt, span, polyOf}
-use Rattle.poly.specs.Reports.{done, refusal}
+use Rattle.poly.specs.Reports.{none, done, refusal, firstOr}
 use Rattle.poly.specs.declared.report.Report.{Report}
-use Rattle.poly.proofs.Valid.{Valid}
+use Rattle.poly.specs.Valid.{Valid}
 use Rattle.poly.proofs.Readings.{termW, codedPoly, length-span, length-coded, span-falling, span-stored, coded-append, valid-fits, valid-coded}
-use Rattle.ring.specs.Outcomes.{outcome, inRoom}
+use Rattle.ring.specs.Outcomes.{Outcome, outcome, unlessRefused, inRoom}
+use Rattle.ring.specs.Calls.{twoInputs}
 use Rattle.ring.specs.Merging.{signed, signedNumber, rest, Greatest}
 use Rattle.ring.specs.declared.sums.Lead.{Lead}
 use Rattle.ring.proofs.Records.{put}
+use Rattle.ring.proofs.Refusals.{refused-tells, passed-goes-on}
 use Rattle.ring.proofs.Transport.{coded-negated, coded-norm, room-done, room-full}
 
 -- Signs
@@ -144,10 +149,6 @@ module _ (p : ℕ) (minus : Bool) (a b : List ℕ) (i j : ℕ) (pos : 0 < p) (v 
 keep-zero : (m c : ℕ) (f : Poly Numbers) → c ≡ 0 → keep m c f ≡ f
 keep-zero m c f e = ap (λ x. keep {K = Numbers} m x f) e
 
-keep-some : (m c : ℕ) (f : Poly Numbers) → (c ≡ 0 → ⊥) → keep m c f ≡ term m c ∷ f
-keep-some m zero f n = absurd (n refl)
-keep-some m (suc c) f n = refl
-
 -- i and j are the places in the inputs, n terms are written
 pub record Merged (p : ℕ) (minus : Bool) (a b room₀ room : List ℕ) (i j n : ℕ) : Type 0 where
   pub as-long : length room ≡ length room₀
@@ -177,7 +178,7 @@ module _ (p : ℕ) (minus : Bool) (a b room₀ : List ℕ) (pos : 0 < p) where
         }
 
     term-due : (r .number ≡ 0 → ⊥) → norm Rising p (rest p minus a b 0 0) ≡ span room 0 n ++ (term (r .word) (r .number) ∷ norm Rising p (rest p minus a b (r .first) (r .second)))
-    term-due z = m .result ∙ ap (λ (f : Poly Numbers). span room 0 n ++ f) (next ∙ keep-some (r .word) (r .number) _ z)
+    term-due z = m .result ∙ ap (λ (f : Poly Numbers). span room 0 n ++ f) (next ∙ keep-positive (r .word) (r .number) _ (pos-of-ne-zero z))
 
     pub merge-writes : (r .number ≡ 0 → ⊥) → n < records room → Merged p minus a b room₀ (put room n (r .word) (r .number)) (r .first) (r .second) (n + 1)
     merge-writes z h =
@@ -209,16 +210,16 @@ module _ (p : ℕ) (minus : Bool) (a b room₀ : List ℕ) (pos : 0 < p) where
 
 -- The outcome
 
-module _ (p : ℕ) (minus : Bool) (a b room₀ : List ℕ) (pos : 0 < p) (v : Valid p a) (w : Valid p b) where
-  -- the sum or the difference
-  abbrev result : Poly (Letters 4)
-  result = norm (Lex 4) p (polyOf base a ++ signed p minus (polyOf base b))
+-- the sum or the difference
+abbrev pub result : ℕ → Bool → List ℕ → List ℕ → Poly (Letters 4)
+result p minus a b = norm (Lex 4) p (polyOf base a ++ signed p minus (polyOf base b))
 
+module _ (p : ℕ) (minus : Bool) (a b room₀ : List ℕ) (pos : 0 < p) (v : Valid p a) (w : Valid p b) where
   signed-coded : (minus : Bool) (f : Poly (Letters 4)) → codedPoly base (signed p minus f) ≡ signed p minus (codedPoly base f)
   signed-coded true f = coded-negated p f
   signed-coded false f = refl
 
-  result-coded : codedPoly base result ≡ norm Rising p (rest p minus a b 0 0)
+  result-coded : codedPoly base (result p minus a b) ≡ norm Rising p (rest p minus a b 0 0)
   result-coded =
       let all : (n : ℕ) → n ≡ n - 0 = λ n. omega arith in
       coded-norm p pos (polyOf base a ++ signed p minus (polyOf base b))
@@ -228,17 +229,29 @@ module _ (p : ℕ) (minus : Bool) (a b room₀ : List ℕ) (pos : 0 < p) (v : Va
       ∙ (λ d. valid-coded p a v d ++ (signed-coded minus (polyOf base b) ∙ ap (signed p minus) (valid-coded p b w)) d)
       ∙ (λ d. span a 0 (all (records a) d) ++ signed p minus (span b 0 (all (records b) d))))
 
-  pub merge-full : (room s : List ℕ) (i j n : ℕ) (lead : Lead) (r : Report) → Merged p minus a b room₀ room i j n → Greatest p minus a b i j lead → (lead .number ≡ 0 → ⊥) → n ≡ records room₀ → r ≡ refusal 10 0 0 → s ≡ take 0 room ++ replicate (length room - 0) 0 → outcome r s [] ≡ inRoom result room₀ []
+  pub merge-full : (room s : List ℕ) (i j n : ℕ) (lead : Lead) (r : Report) → Merged p minus a b room₀ room i j n → Greatest p minus a b i j lead → (lead .number ≡ 0 → ⊥) → n ≡ records room₀ → r ≡ refusal 10 0 0 → s ≡ take 0 room ++ replicate (length room - 0) 0 → outcome r s [] ≡ inRoom (result p minus a b) room₀ []
   merge-full room s i j n lead r m g due h e clear =
       let over : records room₀ < length (norm Rising p (rest p minus a b 0 0)) = merge-over p minus a b room₀ pos room i j n lead m g due (omega (arith, m .as-long)) in
-      let count : length result ≡ length (norm Rising p (rest p minus a b 0 0)) = sym (length-coded base result) ∙ ap length result-coded in
+      let count : length (result p minus a b) ≡ length (norm Rising p (rest p minus a b 0 0)) = sym (length-coded base (result p minus a b)) ∙ ap length result-coded in
       let all : length room - 0 ≡ length room₀ = omega (arith, m .as-long) in
       (λ d. outcome (e d) ((clear ∙ ap (λ (n : ℕ). replicate n 0) all) d) [])
-      ∙ room-full result room₀ [] (omega arith)
+      ∙ room-full (result p minus a b) room₀ [] (omega arith)
 
-  pub merge-done : (room s : List ℕ) (i j n : ℕ) (r : Report) → Merged p minus a b room₀ room i j n → records a + records b ≤ i + j → r ≡ done n 0 → s ≡ take (2 * n) room ++ replicate (length room - 2 * n) 0 → outcome r s [] ≡ inRoom result room₀ []
+  pub merge-done : (room s : List ℕ) (i j n : ℕ) (r : Report) → Merged p minus a b room₀ room i j n → records a + records b ≤ i + j → r ≡ done n 0 → s ≡ take (2 * n) room ++ replicate (length room - 2 * n) 0 → outcome r s [] ≡ inRoom (result p minus a b) room₀ []
   merge-done room s i j n r m h e clear =
-      let words : codedPoly base result ≡ span room 0 n = result-coded ∙ merge-ends p minus a b room₀ pos room i j n m h in
-      let count : length result ≡ n = sym (length-coded base result) ∙ ap length words ∙ length-span room 0 n in
+      let words : codedPoly base (result p minus a b) ≡ span room 0 n = result-coded ∙ merge-ends p minus a b room₀ pos room i j n m h in
+      let count : length (result p minus a b) ≡ n = sym (length-coded base (result p minus a b)) ∙ ap length words ∙ length-span room 0 n in
       (λ d. outcome (e d) (clear d) [])
-      ∙ room-done result room₀ [] room n (m .as-long) (omega (arith, m .as-long, m .written)) words count
+      ∙ room-done (result p minus a b) room₀ [] room n (m .as-long) (omega (arith, m .as-long, m .written)) words count
+
+-- Sum and difference
+
+abbrev pub mergedOf : ℕ → Bool → List ℕ → List ℕ → List ℕ → Outcome
+mergedOf p minus a b room = unlessRefused (twoInputs p a b room) room [] (inRoom (result p minus a b) room [])
+
+module _ (p : ℕ) (minus : Bool) (a b room : List ℕ) (r otherwise : Report) (e : r ≡ firstOr (twoInputs p a b room) otherwise) (o : otherwise ≡ none) where
+  pub call-refused : (r .number ≡ 0 → ⊥) → outcome r room [] ≡ mergedOf p minus a b room
+  call-refused n = refused-tells (twoInputs p a b room) r otherwise e o room [] (inRoom (result p minus a b) room []) n
+
+  pub call-merged : r .number ≡ 0 → (out : Outcome) → out ≡ inRoom (result p minus a b) room [] → out ≡ mergedOf p minus a b room
+  call-merged z out m = m ∙ passed-goes-on (twoInputs p a b room) r otherwise e o room [] (inRoom (result p minus a b) room []) z

@@ -8,7 +8,7 @@ ghost use Rattle.algebra.specs.Polynomials.{norm};
 ghost use Rattle.field.specs.Moduli.{limit};
 ghost use Rattle.monomial.specs.Layout.{base};
 ghost use Rattle.poly.specs.Words.{records, polyOf};
-ghost use Rattle.poly.proofs.Valid.{Valid};
+ghost use Rattle.poly.specs.Valid.{Valid};
 ghost use Rattle.ring.specs.Outcomes.{outcome, inRoom};
 ghost use Rattle.ring.specs.Calls.{sumOf, differenceOf};
 ghost use Rattle.ring.specs.Merging.{signed, signedNumber, Greatest};
