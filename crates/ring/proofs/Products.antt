@@ -4,7 +4,8 @@
 --   product-coded           the words of the product's normal form, where no letter bursts
 --   ends-burst, ends-zero, ends-done, ends-full     9; a factor is zero; the product is in the room; 10
 --   factors-exchanged       which factor is the first makes no difference
-use Prim.Native.Nat.{ℕ, zero, suc, _+_, _-_, _*_, _/_, _<_, _≤_}
+--   product-refused, product-goes-on, work-suffices      the call with a refusal due, and with none
+use Prim.Native.Nat.{ℕ, _-_, _*_, _/_, _<_, _≤_, min}
 use mathlib.Core.Path.{_≡_, refl, sym, _∙_, ap}
 use mathlib.Core.Bool.{true, false}
 use mathlib.Core.List.{List, [], _∷_, _++_}
@@ -21,13 +22,17 @@ use Rattle.algebra.proofs.NormalForm.{norm-unique}
 use Rattle.algebra.proofs.Ring.{mul-comm}
 use Rattle.monomial.specs.Layout.{base}
 use Rattle.poly.specs.Words.{records, span, terms, polyOf}
-use Rattle.poly.specs.Reports.{done, refusal}
+use Rattle.poly.specs.Reports.{none, done, refusal, orElse, firstOr}
+use Rattle.poly.specs.Rules.{workRule}
+use Rattle.poly.proofs.Reports.{fold-passed}
+use Rattle.poly.proofs.Valid.{work-passed}
 use Rattle.poly.specs.Valid.{Valid}
 use Rattle.poly.specs.declared.report.Report.{Report}
 use Rattle.poly.proofs.Readings.{codedPoly, length-coded, length-span, valid-coded}
 use Rattle.ring.specs.Outcomes.{Outcome, outcome, cleared, inRoom}
-use Rattle.ring.specs.Calls.{burstAt, multiplied}
+use Rattle.ring.specs.Calls.{twoInputs, burstAt, multiplied, productOf}
 use Rattle.ring.specs.Tree.{left, Started, Filled}
+use Rattle.ring.proofs.Refusals.{refused-tells, passed-goes-on}
 use Rattle.ring.proofs.Bursts.{burst-comm, products-fit}
 use Rattle.ring.proofs.Transport.{coded-mul, coded-norm, room-done, room-full}
 
@@ -95,3 +100,26 @@ factors-exchanged p pos a b room work =
     let f = polyOf base a in
     let g = polyOf base b in
     λ d. pick (ltb (burst-comm f g d) 4) (outcome (refusal 9 0 0) (cleared room) (cleared work)) (inRoom (norm-unique (Lex 4) pos (mul-comm f g) d) room work)
+
+-- The call: refused, or multiplied
+
+module _ (p : ℕ) (a b room work : List ℕ) (r last : Report) (least : ℕ) (n : least ≡ 4 * min (records a) (records b)) (e : r ≡ firstOr (twoInputs p a b room) last) (f : last ≡ orElse (workRule least work) none) where
+  abbrev rules : List Report
+  rules = twoInputs p a b room ++ (workRule (4 * min (records a) (records b)) work ∷ [])
+
+  due : r ≡ firstOr rules none
+  due = e ∙ ap (firstOr (twoInputs p a b room)) (f ∙ ap (λ x. orElse (workRule x work) none) n)
+
+  pub product-refused : (r .number ≡ 0 → ⊥) → outcome r room work ≡ productOf p a b room work
+  unfolding productOf
+  product-refused k = refused-tells rules r none due refl room work (multiplied p a b room work) k
+
+  pub product-goes-on : (o : Outcome) → r .number ≡ 0 → o ≡ multiplied p a b room work → o ≡ productOf p a b room work
+  unfolding productOf
+  product-goes-on o z g = g ∙ passed-goes-on rules r none due refl room work (multiplied p a b room work) z
+
+  pub work-suffices : r .number ≡ 0 → 4 * min (records a) (records b) ≤ length work
+  work-suffices z =
+      let passed : last .number ≡ 0 = fold-passed (twoInputs p a b room) last (ap (λ (x : Report). x .number) (sym e) ∙ z) .1 in
+      let rule : workRule least work .number ≡ 0 = fold-passed (workRule least work ∷ []) none (ap (λ (x : Report). x .number) (sym f) ∙ passed) .0 .0 in
+      omega (arith, work-passed least work rule, n)

@@ -16,7 +16,7 @@ use Rattle.field.specs.Moduli.{limit}
 use Rattle.field.proofs.Moduli.{modulus-prime, modulus-within}
 use Rattle.poly.specs.Words.{records}
 use Rattle.poly.specs.Reports.{none, firstOr}
-use Rattle.poly.specs.Rules.{roomTerms}
+use Rattle.poly.specs.Rules.{inputTerms, roomTerms}
 use Rattle.poly.specs.declared.report.Report.{Report}
 use Rattle.poly.proofs.Reports.{fold-passed}
 use Rattle.poly.specs.Valid.{Valid}
@@ -44,7 +44,9 @@ pub record Good (p : ℕ) (a b room : List ℕ) : Type 0 where
   pub positive : 0 < p
   pub within : p ≤ limit
   pub first : Valid p a
+  pub first-short : records a ≤ inputTerms
   pub second : Valid p b
+  pub second-short : records b ≤ inputTerms
   pub even : length room ≡ 2 * records room
 
 pub inputs-good : (p : ℕ) (a b room : List ℕ) (r otherwise : Report) → r ≡ firstOr (twoInputs p a b room) otherwise → r .number ≡ 0 → Good p a b room
@@ -56,6 +58,8 @@ inputs-good p a b room r otherwise e z =
       positive = omega (arith, P .two);
       within = modulus-within (A .modulus);
       first = A .ins .0 .valid;
+      first-short = A .ins .0 .short;
       second = A .ins .1 .0 .valid;
+      second-short = A .ins .1 .0 .short;
       even = A .outs .0 .even;
     }
