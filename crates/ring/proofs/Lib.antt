@@ -10,3 +10,7 @@ pub mod Transport
 pub mod Products
 pub mod Merging
 pub mod Refusals
+pub mod Merges
+pub mod SumClaims
+pub mod DifferenceClaims
+pub mod Determined
