@@ -14,3 +14,4 @@ pub mod Merges
 pub mod SumClaims
 pub mod DifferenceClaims
 pub mod Determined
+pub mod ProductDetermined
