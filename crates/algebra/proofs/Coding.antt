@@ -5,9 +5,9 @@
 --   named-append, named-times, named-mul, named-negated    of sums, products and negatives
 --   named-all            a property of the names
 --   named-sorted, named-norm     sorting and the normal form, where every monomial fits
-use Prim.Native.Nat.{ℕ, zero, suc, _+_, _-_, _*_, _%_, _<_}
-use mathlib.Core.Path.{_≡_, refl, sym, _∙_, ap, subst}
-use mathlib.Core.List.{List, [], _∷_, _++_}
+use Prim.Native.Nat.{ℕ, zero, suc, _-_, _*_, _<_}
+use mathlib.Core.Path.{_≡_, refl, _∙_, ap, subst}
+use mathlib.Core.List.{[], _∷_, _++_}
 use Rattle.algebra.specs.Monomials.{Monomials}
 use Rattle.algebra.specs.Orders.{Order, Tri, below, level, above}
 use Rattle.algebra.specs.Polynomials.{Term, term, Poly, times, mul, negated, keep, nonzero, placed, insert, sorted, norm, All}

@@ -5,10 +5,10 @@
 --   burst-comm              the factors may change places
 --   exponents-small, words-small, sides      bounds of valid slices
 --   no-burst, products-fit  where no letter bursts, every product of monomials fits
-use Prim.Native.Nat.{ℕ, zero, suc, _+_, _/_, _^_, _≤_, _<_}
-use mathlib.Core.Path.{_≡_, refl, sym, _∙_, ap}
-use mathlib.Core.Bool.{Bool, true, false}
-use mathlib.Core.List.{List, [], _∷_, _++_}
+use Prim.Native.Nat.{ℕ, _+_, _/_, _^_, _≤_, _<_}
+use mathlib.Core.Path.{_≡_, refl, _∙_, ap}
+use mathlib.Core.Bool.{Bool, true}
+use mathlib.Core.List.{List, [], _∷_}
 use mathlib.Core.Logic.{inl, inr}
 use native.Mathlib.Nat.{add-comm, max-le}
 use native.Mathlib.Decide.{decLt}
@@ -20,7 +20,7 @@ use Rattle.algebra.specs.Residues.{first}
 use Rattle.algebra.specs.Monomials.{Letters, exponent}
 use Rattle.algebra.specs.Orders.{exponent-adds}
 use Rattle.algebra.specs.Polynomials.{Term, Poly, times, mul, largest, All}
-use Rattle.algebra.proofs.Scan.{first-miss, first-unique, first-within}
+use Rattle.algebra.proofs.Scan.{first-miss, first-unique}
 use Rattle.algebra.proofs.NormalForm.{all-append, all-map}
 use Rattle.algebra.proofs.Degrees.{largest-all}
 use Rattle.monomial.specs.Layout.{base, isMonomial, largestExponent}

@@ -72,7 +72,7 @@ module _ (κs : _) (x : _) (r : _) (s : _) (post : difference.Post κs x r s) wh
   difference-written = merged-written p true a b room r out outcome-told
 
   pub difference-coefficients : r .number ≡ 0 → (m : Letters 4 .Mon) → Same p (coef (polyOf base (take (2 * r .first) out)) m + coef (polyOf base b) m) (coef (polyOf base a) m)
-  difference-coefficients t m = 
+  difference-coefficients t m =
       let x = coef (polyOf base a) m in
       let y = coef (polyOf base b) m in
       same-trans (same-add (merged-coef p true a b room r out outcome-told t m) (same-refl {a = y}))

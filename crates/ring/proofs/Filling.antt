@@ -4,12 +4,12 @@
 --   Filling                n records of the room are written, and the rest waits in the tree
 --   fill-starts, fill-skips, fill-writes     nothing yet; a sum of 0; a term more
 --   fill-full, fill-ends   the two ways out
-use Prim.Native.Nat.{ℕ, zero, suc, _+_, _-_, _*_, _/_, _%_, _<_, _≤_}
+use Prim.Native.Nat.{ℕ, suc, _+_, _-_, _*_, _/_, _<_, _≤_}
 use mathlib.Core.Path.{_≡_, refl, sym, _∙_, ap}
 use mathlib.Core.List.{List, [], _∷_, _++_, append-nil, append-assoc}
-use native.Mathlib.Nat.{mod-eq-of-lt, zero-mod, pos-of-ne-zero}
+use native.Mathlib.Nat.{mod-eq-of-lt, pos-of-ne-zero}
 use native.Mathlib.Omega.{arith}
-use lib.ListN.{length, length-append, length-set}
+use lib.ListN.{length, length-append}
 use Rattle.algebra.specs.Monomials.{Numbers}
 use Rattle.algebra.specs.Orders.{Rising}
 use Rattle.algebra.specs.Polynomials.{term, Poly, keep, norm}

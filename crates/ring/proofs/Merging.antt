@@ -7,7 +7,7 @@
 --   merge-full, merge-done       its two ways out: a term is due and the room is full; nothing is left
 --   mergedOf                     sum or difference: what both calls do
 --   call-refused, call-merged    their ways out: a refusal is due; none is
-use Prim.Native.Nat.{ℕ, zero, suc, _+_, _-_, _*_, _%_, _<_, _≤_}
+use Prim.Native.Nat.{ℕ, suc, _+_, _-_, _*_, _%_, _<_, _≤_}
 use mathlib.Core.Path.{_≡_, refl, sym, _∙_, ap, subst}
 use mathlib.Core.Bool.{Bool, true, false}
 use mathlib.Core.List.{List, [], _∷_, _++_, append-assoc, append-nil}

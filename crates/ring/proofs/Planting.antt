@@ -5,20 +5,19 @@
 --   starts                         a tree so built waits for every product
 --   left-below                     where the columns fall, every product left is at most the root's
 --   left-none                      nothing is left where the root is empty
-use Prim.Native.Nat.{ℕ, zero, suc, _+_, _-_, _*_, _/_, _%_, _^_, _<_, _≤_}
+use Prim.Native.Nat.{ℕ, zero, suc, _+_, _-_, _*_, _/_, _^_, _<_, _≤_}
 use mathlib.Core.Path.{_≡_, refl, sym, _∙_, ap, subst}
-use mathlib.Core.List.{List, [], _∷_, _++_}
+use mathlib.Core.List.{List, [], _++_}
 use mathlib.Core.Logic.{_⊎_, inl, inr}
-use native.Mathlib.Nat.{le-refl}
-use native.Mathlib.Decide.{ℕ-discrete, decLt}
+use native.Mathlib.Decide.{ℕ-discrete}
 use native.Mathlib.Omega.{arith}
 use lib.ListN.{length}
 use Rattle.algebra.specs.Monomials.{Numbers}
 use Rattle.algebra.specs.Orders.{Rising}
-use Rattle.algebra.specs.Polynomials.{term, Poly, times, mul, Below}
-use Rattle.algebra.proofs.NormalForm.{all-append, all-map}
+use Rattle.algebra.specs.Polynomials.{term, times, mul, Below}
+use Rattle.algebra.proofs.NormalForm.{all-append}
 use Rattle.poly.specs.Words.{records, wordAt, numberAt, span}
-use Rattle.ring.specs.Tree.{Holds, Tree, rowOf, columnOf, Product, Waits, pending, left, Live, Greater, Planted, Built, Started}
+use Rattle.ring.specs.Tree.{Holds, rowOf, columnOf, Product, Waits, pending, left, Live, Greater, Planted, Built, Started}
 use Rattle.ring.specs.declared.tree.Node.{Node}
 use Rattle.ring.proofs.Records.{put, put-length, put-word, put-number, put-other}
 use Rattle.ring.proofs.Ways.{beside, beside-place, Best, best-holds, holds-other, tree-greatest}

@@ -7,7 +7,6 @@
 --   product-refused, product-goes-on, work-suffices      the call with a refusal due, and with none
 use Prim.Native.Nat.{ℕ, _-_, _*_, _/_, _<_, _≤_, min}
 use mathlib.Core.Path.{_≡_, refl, sym, _∙_, ap}
-use mathlib.Core.Bool.{true, false}
 use mathlib.Core.List.{List, [], _∷_, _++_}
 use native.Mathlib.Nat.{sub-zero}
 use native.Mathlib.Omega.{arith}
@@ -15,7 +14,7 @@ use lib.Dec.{ltb}
 use lib.ListN.{length, take, replicate}
 use borrow.Author.Tests.{lt-ltb, le-ltb}
 use Rattle.algebra.specs.Residues.{pick}
-use Rattle.algebra.specs.Monomials.{Letters, Numbers}
+use Rattle.algebra.specs.Monomials.{Letters}
 use Rattle.algebra.specs.Orders.{Lex, Rising}
 use Rattle.algebra.specs.Polynomials.{Poly, mul, norm}
 use Rattle.algebra.proofs.NormalForm.{norm-unique}

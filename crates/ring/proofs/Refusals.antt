@@ -89,8 +89,25 @@ due-within p a b room n h =
     let guard : (operand : ℕ) (s : List ℕ) → guardRule base operand s .number ≡ n → ⊥ = λ operand s. own 4 (omega arith) (guardRule base operand s) (guard-own operand s) in
     let order : (operand : ℕ) (s : List ℕ) → orderRule operand s .number ≡ n → ⊥ = λ operand s. own 5 (omega arith) (orderRule operand s) (order-own operand s) in
     let number : (operand : ℕ) (s : List ℕ) → numberRule p operand s .number ≡ n → ⊥ = λ operand s. own 6 (omega arith) (numberRule p operand s) (number-own operand s p) in
-    fold-other n (omega arith) (twoInputs p a b room)
-    (own 1 (omega arith) (modulusRule p) (modulus-own p),
-    (odd 1 a, (odd 2 b, (odd 3 room,
-    (long inputTerms 1 a, (long inputTerms 2 b, (long roomTerms 3 room,
-    (guard 1 a, (guard 2 b, (order 1 a, (order 2 b, (number 1 a, (number 2 b, tt)))))))))))))
+    fold-other n (omega arith) (twoInputs p a b room) (
+      own 1 (omega arith) (modulusRule p) (modulus-own p),
+      (
+        odd 1 a,
+        (
+          odd 2 b,
+          (
+            odd 3 room,
+            (
+              long inputTerms 1 a,
+              (
+                long inputTerms 2 b,
+                (
+                  long roomTerms 3 room,
+                  (guard 1 a, (guard 2 b, (order 1 a, (order 2 b, (number 1 a, (number 2 b, tt)))))),
+                ),
+              ),
+            ),
+          ),
+        ),
+      ),
+    )

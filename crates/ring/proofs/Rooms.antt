@@ -2,7 +2,7 @@
 --
 --   Zeros s₀ from s i       s is s₀ with zero words from `from` up to i
 --   zeros-none, zeros-more, zeros-all      none yet; one more; all, up to the end
-use Prim.Native.Nat.{ℕ, zero, suc, _+_, _-_, _<_, _≤_}
+use Prim.Native.Nat.{ℕ, _+_, _-_, _<_, _≤_}
 use mathlib.Core.Path.{_≡_, refl, sym, _∙_, ap}
 use mathlib.Core.List.{List, [], _∷_, _++_, append-nil}
 use native.Mathlib.Numerals.{add-one}

@@ -5,7 +5,7 @@
 --   Hand                   the product in hand: its row, its column, and its key
 --   hand                   the record to be taken is the product of its own row and column
 --   Taking, take-starts, take-steps, take-ends     the loop that takes all products of one key
-use Prim.Native.Nat.{ℕ, zero, suc, _+_, _-_, _*_, _/_, _%_, _^_, _<_, _≤_}
+use Prim.Native.Nat.{ℕ, zero, suc, _+_, _-_, _*_, _%_, _<_, _≤_}
 use mathlib.Core.Path.{_≡_, refl, sym, _∙_, ap, subst}
 use mathlib.Core.List.{List, [], _∷_, _++_}
 use mathlib.Core.Logic.{_⊎_, _≢_, inl, inr}
@@ -16,13 +16,12 @@ use native.Mathlib.Omega.{arith}
 use lib.ListN.{length}
 use Rattle.algebra.specs.Residues.{Same}
 use Rattle.algebra.specs.Monomials.{Numbers}
-use Rattle.algebra.specs.Orders.{Rising}
 use Rattle.algebra.specs.Polynomials.{Term, term, Poly, only, Equal, times}
 use Rattle.algebra.proofs.Residues.{same-eq, same-refl, same-sym, same-trans, same-mod, same-add, same-mul}
 use Rattle.algebra.proofs.Totals.{total, equal-by}
-use Rattle.algebra.proofs.NormalForm.{equal-total, equal-trans}
+use Rattle.algebra.proofs.NormalForm.{equal-trans}
 use Rattle.poly.specs.Words.{records, wordAt, numberAt, span}
-use Rattle.ring.specs.Tree.{Copy, Tree, Above, Settled, rowOf, columnOf, Product, Waits, unlessEmpty, pending, left, Sides, Live, count, Next, Climbed, Taken}
+use Rattle.ring.specs.Tree.{Settled, rowOf, columnOf, Product, Waits, unlessEmpty, pending, left, Sides, Live, count, Next, Climbed, Taken}
 use Rattle.ring.specs.declared.tree.Node.{Node}
 use Rattle.ring.proofs.Ways.{settled-root, root-settled, tree-greatest, Leaf, tree-leaf}
 

@@ -6,9 +6,9 @@
 --   coded-mul, coded-negated    of products and negatives
 --   room-done           a room that holds the terms of f, and zeros after them, is as `inRoom` says
 --   room-full           a room that is too small is
-use Prim.Native.Nat.{ℕ, zero, suc, _+_, _-_, _*_, _<_, _≤_}
+use Prim.Native.Nat.{ℕ, _+_, _-_, _*_, _<_, _≤_}
 use mathlib.Core.Path.{_≡_, refl, sym, _∙_, ap}
-use mathlib.Core.Bool.{true, false}
+use mathlib.Core.Bool.{true}
 use mathlib.Core.List.{List, [], _∷_, _++_}
 use native.Mathlib.Omega.{arith}
 use lib.Dec.{leb}
@@ -24,7 +24,7 @@ use Rattle.monomial.proofs.Laws.{write, fit, coding}
 use Rattle.poly.specs.Words.{records, span, wordsOf, filled}
 use Rattle.poly.specs.Reports.{done, refusal}
 use Rattle.poly.proofs.Readings.{flat, codedPoly, flat-coded, length-flat, flat-span, length-coded}
-use Rattle.ring.specs.Outcomes.{Outcome, outcome, cleared, inRoom}
+use Rattle.ring.specs.Outcomes.{outcome, cleared, inRoom}
 
 abbrev pub names : Named (Lex 4) Rising
 names =

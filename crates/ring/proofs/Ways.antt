@@ -11,14 +11,14 @@
 --   tree-greatest               no record has a greater key than the root
 --   Climbing, climb-starts, climb-steps, climb-ends    a climb, from the leaf written to its end
 --   tree-leaf                   a record of a tree is a copy of a leaf below it
-use Prim.Native.Nat.{ℕ, zero, suc, _+_, _-_, _*_, _/_, _%_, _^_, _<_, _≤_}
+use Prim.Native.Nat.{ℕ, zero, suc, _+_, _*_, _/_, _%_, _^_, _<_, _≤_}
 use mathlib.Core.Path.{_≡_, refl, sym, _∙_, ap, subst}
 use mathlib.Core.List.{List}
 use mathlib.Core.Logic.{_⊎_, inl, inr}
-use native.Mathlib.Nat.{div-div-eq-div-mul, pow-succ', div-le-self, le-trans, le-refl, div-one}
+use native.Mathlib.Nat.{div-div-eq-div-mul, pow-succ', div-le-self, le-refl}
 use native.Mathlib.Decide.{ℕ-discrete, decLt}
 use native.Mathlib.Omega.{arith}
-use lib.Bits.{bitXor, bitAnd, xor-add-and, and-mask}
+use lib.Bits.{bitXor, xor-add-and, and-mask}
 use lib.ListN.{length}
 use Rattle.poly.specs.Words.{wordAt, numberAt}
 use Rattle.ring.specs.Tree.{Copy, Holds, Tree, Above, Settled, Greater, Climbed}

@@ -5,7 +5,6 @@
 --   productOf p a b room work    the product: 9 where an exponent could be over the largest, before 10
 --   burstAt a b                  the first letter v with M(a, v) + M(b, v) over the largest exponent; the number of letters if none
 use Prim.Native.Nat.{ℕ, _+_, _*_, min}
-use mathlib.Core.Bool.{Bool}
 use mathlib.Core.List.{List, [], _∷_, _++_}
 use lib.Dec.{ltb}
 use Rattle.algebra.specs.Residues.{pick, first}

@@ -5,7 +5,7 @@
 --   cleared s                    as many zero words as s has
 --   inRoom f room work           the terms of f in the room, then zeros, and the work zero; 10, and all zero, where they do not fit
 use Prim.Native.Nat.{ℕ}
-use mathlib.Core.List.{List, [], _∷_}
+use mathlib.Core.List.{List}
 use lib.Dec.{eqb, leb}
 use lib.ListN.{length, replicate}
 use Rattle.algebra.specs.Residues.{pick}

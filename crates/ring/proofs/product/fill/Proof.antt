@@ -1,5 +1,4 @@
 -- `ring::product::fill` meets its contract. The loop's invariant: n records are written, and the rest waits in the tree.
-use Prim.Native.Nat.{_-_}
 use mathlib.Core.Path.{_∙_}
 use native.Mathlib.Nat.{pos-of-ne-zero}
 use native.Mathlib.Omega.{arith}

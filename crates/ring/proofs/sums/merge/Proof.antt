@@ -2,7 +2,7 @@
 use Prim.Native.Nat.{_+_, _-_}
 use native.Mathlib.Omega.{arith}
 use borrow.Author.Needs.{needs}
-use lib.ListN.{length, length-set}
+use lib.ListN.{length-set}
 use Rattle.poly.specs.Words.{records}
 use Rattle.ring.proofs.Merging.{Merged, merge-starts, merge-skips, merge-writes, merge-full, merge-done}
 use Rattle.ring.proofs.sums.merge.Statement.{statement}
