@@ -2,8 +2,9 @@
 --
 --   exponents-of            a profile's exponents are the largest of its polynomial
 --   burst-found, burst-none the first letter that bursts; none does
+--   burst-some              a letter that bursts, where the first is one of the four
 --   burst-comm              the factors may change places
---   exponents-small, words-small, sides      bounds of valid slices
+--   exponents-most, exponents-small, words-small, sides      bounds of valid slices
 --   no-burst, products-fit  where no letter bursts, every product of monomials fits
 use Prim.Native.Nat.{ℕ, _+_, _/_, _^_, _≤_, _<_}
 use mathlib.Core.Path.{_≡_, refl, _∙_, ap}
@@ -15,12 +16,12 @@ use native.Mathlib.Decide.{decLt}
 use native.Mathlib.Omega.{arith}
 use lib.Dec.{ltb}
 use lib.ListN.{getD}
-use borrow.Author.Tests.{lt-ltb, le-ltb, ltb-false}
+use borrow.Author.Tests.{lt-ltb, le-ltb, ltb-true, ltb-false}
 use Rattle.algebra.specs.Residues.{first}
 use Rattle.algebra.specs.Monomials.{Letters, exponent}
 use Rattle.algebra.specs.Orders.{exponent-adds}
 use Rattle.algebra.specs.Polynomials.{Term, Poly, times, mul, largest, All}
-use Rattle.algebra.proofs.Scan.{first-miss, first-unique}
+use Rattle.algebra.proofs.Scan.{first-hit, first-miss, first-unique}
 use Rattle.algebra.proofs.NormalForm.{all-append, all-map}
 use Rattle.algebra.proofs.Degrees.{largest-all}
 use Rattle.monomial.specs.Layout.{base, isMonomial, largestExponent}
@@ -52,6 +53,9 @@ module _ (f g : Poly (Letters 4)) where
   pub no-burst : 4 ≤ burstAt f g → (v : ℕ) → v < 4 → largest (exponent 4 v) f + largest (exponent 4 v) g ≤ 32767
   no-burst h v l = ltb-false 32767 _ (first-miss (bursts f g) 0 4 {j = v} (omega arith) (omega arith))
 
+  pub burst-some : burstAt f g < 4 → 32767 < largest (exponent 4 (burstAt f g)) f + largest (exponent 4 (burstAt f g)) g
+  burst-some h = ltb-true 32767 _ (first-hit (bursts f g) 0 4 h)
+
 pub burst-comm : (f g : Poly (Letters 4)) → burstAt f g ≡ burstAt g f
 burst-comm f g = ap (λ (t : ℕ → Bool). first t 0 4) (λ i v. ltb (largestExponent 16) (add-comm (largest (exponent 4 v) f) (largest (exponent 4 v) g) i))
 
@@ -82,10 +86,12 @@ largest-most : (w : Letters 4 .Mon → ℕ) (b : ℕ) (f : Poly (Letters 4)) →
 largest-most w b [] a = omega arith
 largest-most w b (u ∷ f) a = max-le (a .0) (largest-most w b f (a .1))
 
+pub exponents-most : (p : ℕ) (s : List ℕ) → Valid p s → (v : ℕ) → largest (exponent 4 v) (polyOf base s) ≤ 32767
+exponents-most p s h v =
+    largest-most (exponent 4 v) 32767 (polyOf base s) (all-map (λ m f. fits-letters 16 4 m .0 f v) (polyOf base s) (valid-fits p s h))
+
 pub exponents-small : (p : ℕ) (s : List ℕ) → Valid p s → (v : ℕ) → largest (exponent 4 v) (polyOf base s) < 2 ^ 16
-exponents-small p s h v =
-    let most : largest (exponent 4 v) (polyOf base s) ≤ 32767 = largest-most (exponent 4 v) 32767 (polyOf base s) (all-map (λ m f. fits-letters 16 4 m .0 f v) (polyOf base s) (valid-fits p s h)) in
-    omega arith
+exponents-small p s h v = omega (arith, exponents-most p s h v)
 
 pub word-small : (m : ℕ) → isMonomial base m ≡ true → m < 2 ^ 63
 word-small m h =

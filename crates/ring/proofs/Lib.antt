@@ -14,4 +14,6 @@ pub mod Merges
 pub mod SumClaims
 pub mod DifferenceClaims
 pub mod Determined
+pub mod Multiplying
+pub mod ProductClaims
 pub mod ProductDetermined

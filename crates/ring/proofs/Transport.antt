@@ -6,6 +6,7 @@
 --   coded-mul, coded-negated    of products and negatives
 --   room-done           a room that holds the terms of f, and zeros after them, is as `inRoom` says
 --   room-full           a room that is too small is
+--   filled-poly         the polynomial in a room that was filled with the words of one
 use Prim.Native.Nat.{ℕ, _+_, _-_, _*_, _<_, _≤_}
 use mathlib.Core.Path.{_≡_, refl, sym, _∙_, ap}
 use mathlib.Core.Bool.{true}
@@ -13,6 +14,7 @@ use mathlib.Core.List.{List, [], _∷_, _++_}
 use native.Mathlib.Omega.{arith}
 use lib.Dec.{leb}
 use lib.ListN.{length, take, replicate}
+use lib.Seq.{take-at}
 use borrow.Author.Tests.{le-leb, lt-leb}
 use Rattle.algebra.specs.Residues.{pick}
 use Rattle.algebra.specs.Monomials.{Letters, Numbers}
@@ -21,9 +23,9 @@ use Rattle.algebra.specs.Polynomials.{term, Poly, mul, negated, norm, All}
 use Rattle.algebra.proofs.Coding.{Named, named, named-mul, named-negated, named-norm}
 use Rattle.monomial.specs.Layout.{base}
 use Rattle.monomial.proofs.Laws.{write, fit, coding}
-use Rattle.poly.specs.Words.{records, span, wordsOf, filled}
+use Rattle.poly.specs.Words.{records, span, polyOf, wordsOf, filled}
 use Rattle.poly.specs.Reports.{done, refusal}
-use Rattle.poly.proofs.Readings.{flat, codedPoly, flat-coded, length-flat, flat-span, length-coded}
+use Rattle.poly.proofs.Readings.{flat, codedPoly, flat-coded, length-flat, flat-span, length-coded, poly-words}
 use Rattle.ring.specs.Outcomes.{outcome, cleared, inRoom}
 
 abbrev pub names : Named (Lex 4) Rising
@@ -62,3 +64,8 @@ module _ (f : Poly (Letters 4)) (room work : List ℕ) where
   pub room-full : records room < length f → outcome (refusal 10 0 0) (cleared room) (cleared work) ≡ inRoom f room work
   room-full h =
       ap (λ b. pick b (outcome (done (length f) 0) (filled (length room) (wordsOf base f)) (cleared work)) (outcome (refusal 10 0 0) (cleared room) (cleared work))) (sym (lt-leb (length f) (records room) h))
+
+pub filled-poly : (f : Poly (Letters 4)) (n : ℕ) → All (λ m. fit base m ≡ true) f → polyOf base (take (2 * length f) (filled n (wordsOf base f))) ≡ f
+filled-poly f n fits =
+    let long : length (wordsOf base f) ≡ 2 * length f = ap length (sym (flat-coded base f)) ∙ length-flat (codedPoly base f) ∙ ap (λ (k : ℕ). 2 * k) (length-coded base f) in
+    ap (polyOf base) (take-at (wordsOf base f) (replicate (n - length (wordsOf base f)) 0) (2 * length f) long) ∙ poly-words base f fits

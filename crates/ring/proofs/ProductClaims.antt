@@ -1,0 +1,234 @@
+-- What document 01 says of the product, shown of its contract as the check generates it from the source.
+--
+--   product-refuses        each of 1 to 8 is told exactly when it is the first due of the ordered rules
+--   product-bursts         9 exactly when none of them is due and M(a, v) + M(b, v) is over 32,767 for some v
+--   product-bursts-nonzero     both factors are nonzero then
+--   product-full           else 10 exactly when the true product, after cancellation, has more terms than the room
+--   product-done           else 0
+--   product-unchanged      after 1 to 8 the room and the work are as they were
+--   product-nine, product-ten  9 and 10 carry no operand, no term and no count; room and work are all zero
+--   product-written        0 carries the terms of the true product; the room has them, then zero words; the work is all zero
+--   product-coefficients   with 0, at every monomial the coefficient is the sum, modulo p, of all a·b whose monomials multiply to it
+--   product-count          with 0, every normal polynomial that is the product has as many terms as are told
+--   product-zero-factor    if either factor is zero, the product is zero
+use Prim.Native.Nat.{ℕ, _*_, _<_, _≤_}
+use mathlib.Core.Path.{_≡_, sym, _∙_, ap}
+use mathlib.Core.Bool.{true}
+use mathlib.Core.List.{List, []}
+use mathlib.Core.Logic.{_⊎_, inl, inr, _↔_}
+use native.Mathlib.Nat.{sub-zero}
+use native.Mathlib.Omega.{arith}
+use denote.Ref.{now}
+use lib.ListN.{length, take, replicate}
+use Rattle.algebra.specs.Residues.{Same}
+use Rattle.algebra.specs.Monomials.{Letters}
+use Rattle.algebra.specs.Orders.{Lex}
+use Rattle.algebra.specs.Polynomials.{Poly, coef, mul, norm, Equal, Normal}
+use Rattle.algebra.proofs.Residues.{same-eq, same-trans}
+use Rattle.algebra.proofs.NormalForm.{norm-all, norm-normal, norm-equal, equal-trans, equal-sym, normal-unique}
+use Rattle.monomial.specs.Layout.{base}
+use Rattle.monomial.proofs.Laws.{fit}
+use Rattle.poly.specs.Words.{records, polyOf, wordsOf, filled}
+use Rattle.poly.specs.Reports.{refusal, done}
+use Rattle.poly.specs.declared.report.Report.{Report}
+use Rattle.ring.specs.Outcomes.{Outcome, outcome, cleared}
+use Rattle.ring.proofs.Bursts.{products-fit}
+use Rattle.ring.proofs.Transport.{filled-poly}
+use Rattle.ring.proofs.Multiplying.{
+  rules,
+  due,
+  product,
+  Bursts,
+  FirstDue,
+  fold-first-due,
+  rules-within,
+  factors-good,
+  bursts-not,
+  Way,
+  refused,
+  burst,
+  full,
+  finished,
+  way,
+  bursts-nonzero,
+  no-factor,
+}
+use Rattle.ring.proofs.product.product.Reads as call
+
+-- of a report in an outcome
+number-told : {r q : Report} {o o′ w w′ : List ℕ} → outcome r o w ≡ outcome q o′ w′ → r .number ≡ q .number
+number-told e = ap (λ (x : Outcome). x .report .number) e
+
+-- the three parts of an outcome
+parts : {r q : Report} {o o′ w w′ : List ℕ} → outcome r o w ≡ outcome q o′ w′ → (r ≡ q) × (o ≡ o′) × (w ≡ w′)
+parts e = (ap (λ (x : Outcome). x .report) e, ap (λ (x : Outcome). x .room) e, ap (λ (x : Outcome). x .work) e)
+
+module _ (p : ℕ) (a b room work : List ℕ) (r : Report) (out spent : List ℕ) where
+  abbrev Passes : Type 0
+  Passes = due p a b room work .number ≡ 0
+
+  told-due : 0 < r .number → r .number ≤ 8 → Way p a b room work r out spent → (r ≡ due p a b room work) × (out ≡ room) × (spent ≡ work)
+  told-due h k (refused n e) = parts e
+  told-due h k (burst z v e) = absurd (omega (arith, number-told e))
+  told-due h k (full z n l e) = absurd (omega (arith, number-told e))
+  told-due h k (finished z n l e) = absurd (omega (arith, number-told e))
+
+  due-told : (Passes → ⊥) → Way p a b room work r out spent → r ≡ due p a b room work
+  due-told k (refused n e) = parts e .0
+  due-told k (burst z v e) = absurd (k z)
+  due-told k (full z n l e) = absurd (k z)
+  due-told k (finished z n l e) = absurd (k z)
+
+  told-nine : r .number ≡ 9 → Way p a b room work r out spent → Passes × Bursts a b × ((r ≡ refusal 9 0 0) × (out ≡ cleared room) × (spent ≡ cleared work))
+  told-nine h (refused n e) = absurd (rules-within p a b room work 9 (omega arith) (sym (number-told e) ∙ h))
+  told-nine h (burst z v e) = (z, v, parts e)
+  told-nine h (full z n l e) = absurd (omega (arith, number-told e))
+  told-nine h (finished z n l e) = absurd (omega (arith, number-told e))
+
+  nine-told : Passes → Bursts a b → Way p a b room work r out spent → r .number ≡ 9
+  nine-told z v (refused n e) = absurd (n z)
+  nine-told z v (burst z′ v′ e) = number-told e
+  nine-told z v (full z′ n l e) = absurd (n v)
+  nine-told z v (finished z′ n l e) = absurd (n v)
+
+  told-ten : r .number ≡ 10 → Way p a b room work r out spent → (Passes × (Bursts a b → ⊥) × (records room < length (product p a b))) × ((r ≡ refusal 10 0 0) × (out ≡ cleared room) × (spent ≡ cleared work))
+  told-ten h (refused n e) = absurd (rules-within p a b room work 10 (omega arith) (sym (number-told e) ∙ h))
+  told-ten h (burst z v e) = absurd (omega (arith, number-told e))
+  told-ten h (full z n l e) = ((z, n, l), parts e)
+  told-ten h (finished z n l e) = absurd (omega (arith, number-told e))
+
+  ten-told : Passes → (Bursts a b → ⊥) → records room < length (product p a b) → Way p a b room work r out spent → r .number ≡ 10
+  ten-told z n l (refused k e) = absurd (k z)
+  ten-told z n l (burst z′ v e) = absurd (n v)
+  ten-told z n l (full z′ n′ l′ e) = number-told e
+  ten-told z n l (finished z′ n′ l′ e) = absurd (omega arith)
+
+  told-done : r .number ≡ 0 → Way p a b room work r out spent → (Passes × (Bursts a b → ⊥) × (length (product p a b) ≤ records room)) × ((r ≡ done (length (product p a b)) 0) × (out ≡ filled (length room) (wordsOf base (product p a b))) × (spent ≡ cleared work))
+  told-done h (refused n e) = absurd (n (sym (number-told e) ∙ h))
+  told-done h (burst z v e) = absurd (omega (arith, number-told e))
+  told-done h (full z n l e) = absurd (omega (arith, number-told e))
+  told-done h (finished z n l e) = ((z, n, l), parts e)
+
+  done-told : Passes → (Bursts a b → ⊥) → length (product p a b) ≤ records room → Way p a b room work r out spent → r .number ≡ 0
+  done-told z n l (refused k e) = absurd (k z)
+  done-told z n l (burst z′ v e) = absurd (n v)
+  done-told z n l (full z′ n′ l′ e) = absurd (omega arith)
+  done-told z n l (finished z′ n′ l′ e) = number-told e
+
+module _ (κs : _) (x : _) (r : _) (s : _) (post : call.Post κs x r s) where
+  abbrev p : ℕ
+  p = x .0
+
+  abbrev a : List ℕ
+  a = now (x .1 .0)
+
+  abbrev b : List ℕ
+  b = now (x .1 .1 .0)
+
+  abbrev room : List ℕ
+  room = now (x .1 .1 .1 .0)
+
+  abbrev work : List ℕ
+  work = now (x .1 .1 .1 .1 .0)
+
+  -- the room and the work afterwards
+  abbrev out : List ℕ
+  out = now (s .1 .1 .1 .0)
+
+  abbrev spent : List ℕ
+  spent = now (s .1 .1 .1 .1 .0)
+
+  taken : Way p a b room work r out spent
+  taken = way p a b room work r out spent post
+
+  -- Of 1 to 8 the lowest number wins, then the lowest operand, then the lowest term.
+  pub product-refuses : (q : Report) → 0 < q .number → q .number ≤ 8 → (r ≡ q) ↔ FirstDue (rules p a b room work) q
+  product-refuses q h k =
+      let d = fold-first-due (rules p a b room work) q h in (
+        λ e.
+            let n : r .number ≡ q .number = ap (λ (y : Report). y .number) e in
+            d .0 (sym (told-due p a b room work r out spent (omega arith) (omega arith) taken .0) ∙ e),
+        λ f.
+            let n : due p a b room work .number ≡ q .number = ap (λ (y : Report). y .number) (d .1 f) in
+            due-told p a b room work r out spent (λ z. omega arith) taken ∙ d .1 f,
+      )
+
+  -- 9 exactly when M(a, v) + M(b, v) is over 32,767 for some v.
+  pub product-bursts : (r .number ≡ 9) ↔ ((due p a b room work .number ≡ 0) × Bursts a b)
+  product-bursts = (
+    λ h. let t = told-nine p a b room work r out spent h taken in (t .0, t .1),
+    λ h. nine-told p a b room work r out spent (h .0) (h .1) taken,
+  )
+
+  -- A zero factor never gives 9: the other's exponents are at most 32,767.
+  pub product-bursts-nonzero : r .number ≡ 9 → (0 < records a) × (0 < records b)
+  product-bursts-nonzero h = let t = told-nine p a b room work r out spent h taken in bursts-nonzero p a b room work (t .0) (t .1)
+
+  -- Else 10 exactly when the true product, after cancellation, has more terms than the room.
+  pub product-full : (r .number ≡ 10) ↔ ((due p a b room work .number ≡ 0) × (Bursts a b → ⊥) × (records room < length (norm (Lex 4) p (mul (polyOf base a) (polyOf base b)))))
+  product-full = (
+    λ h. told-ten p a b room work r out spent h taken .0,
+    λ h. ten-told p a b room work r out spent (h .0) (h .1) (h .2) taken,
+  )
+
+  pub product-done : (r .number ≡ 0) ↔ ((due p a b room work .number ≡ 0) × (Bursts a b → ⊥) × (length (norm (Lex 4) p (mul (polyOf base a) (polyOf base b))) ≤ records room))
+  product-done = (
+    λ h. told-done p a b room work r out spent h taken .0,
+    λ h. done-told p a b room work r out spent (h .0) (h .1) (h .2) taken,
+  )
+
+  -- Outputs and work afterwards
+
+  pub product-unchanged : 0 < r .number → r .number ≤ 8 → (out ≡ room) × (spent ≡ work)
+  product-unchanged h k = let t = told-due p a b room work r out spent h k taken in (t .1, t .2)
+
+  pub product-nine : r .number ≡ 9 → (r ≡ refusal 9 0 0) × (out ≡ cleared room) × (spent ≡ cleared work)
+  product-nine h = told-nine p a b room work r out spent h taken .2
+
+  pub product-ten : r .number ≡ 10 → (r ≡ refusal 10 0 0) × (out ≡ cleared room) × (spent ≡ cleared work)
+  product-ten h = told-ten p a b room work r out spent h taken .1
+
+  pub product-written : r .number ≡ 0 → (r ≡ done (length (norm (Lex 4) p (mul (polyOf base a) (polyOf base b)))) 0) × (out ≡ filled (length room) (wordsOf base (norm (Lex 4) p (mul (polyOf base a) (polyOf base b))))) × (spent ≡ cleared work)
+  product-written h = told-done p a b room work r out spent h taken .1
+
+  -- With reply 0
+
+  module _ (t : r .number ≡ 0) where
+    positive : 0 < p
+    positive = factors-good p a b room work (product-done .0 t .0) .positive
+
+    first-terms : r .first ≡ length (product p a b)
+    first-terms = ap (λ (y : Report). y .first) (product-written t .0)
+
+    -- the polynomial in the room
+    in-room : polyOf base (take (2 * r .first) out) ≡ product p a b
+    in-room =
+        (λ d. polyOf base (take (2 * first-terms d) (product-written t .1 d)))
+        ∙ filled-poly (product p a b) (length room)
+        (norm-all (Lex 4) positive (λ m. fit base m ≡ true) (mul (polyOf base a) (polyOf base b)) (products-fit (polyOf base a) (polyOf base b) (bursts-not p a b room work (product-done .0 t .1))))
+
+    -- The coefficient of the product at a monomial is the sum, modulo p, of all a·b whose monomials multiply to it.
+    pub product-coefficients : (m : Letters 4 .Mon) → Same p (coef (polyOf base (take (2 * r .first) out)) m) (coef (mul (polyOf base a) (polyOf base b)) m)
+    product-coefficients m =
+        same-trans (same-eq (ap (λ (k : Poly (Letters 4)). coef k m) in-room)) (norm-equal (Lex 4) positive (mul (polyOf base a) (polyOf base b)) .equal m)
+
+    -- Term counts are those of the true result.
+    pub product-count : (h : Poly (Letters 4)) → Normal (Lex 4) p h → Equal p h (mul (polyOf base a) (polyOf base b)) → r .first ≡ length h
+    product-count h n d =
+        first-terms
+        ∙ ap length (normal-unique (Lex 4) (product p a b) h (norm-normal (Lex 4) positive (mul (polyOf base a) (polyOf base b))) n (equal-trans (norm-equal (Lex 4) positive (mul (polyOf base a) (polyOf base b))) (equal-sym d)))
+
+  -- If either factor is zero, the product is zero.
+  pub product-zero-factor : due p a b room work .number ≡ 0 → (records a ≡ 0) ⊎ (records b ≡ 0) → (r ≡ done 0 0) × (out ≡ cleared room) × (spent ≡ cleared work)
+  product-zero-factor z n =
+      let none : product p a b ≡ [] = no-factor p a b room work (factors-good p a b room work z .positive) n in
+      let fits : length (product p a b) ≤ records room = omega (arith, ap length none) in
+      let w = product-written (product-done .1 (z, (λ v. both (bursts-nonzero p a b room work z v) n), fits)) in (
+        w .0 ∙ ap (λ (k : Poly (Letters 4)). done (length k) 0) none,
+        w .1 ∙ ap (λ (k : Poly (Letters 4)). filled (length room) (wordsOf base k)) none ∙ ap (λ (k : ℕ). replicate k 0) (sub-zero (length room)),
+        w .2,
+      )
+    where
+      both : (0 < records a) × (0 < records b) → (records a ≡ 0) ⊎ (records b ≡ 0) → ⊥
+      both h (inl e) = omega (arith, h .0)
+      both h (inr e) = omega (arith, h .1)
