@@ -6,15 +6,14 @@
 --   merged-unchanged, merged-cleared, merged-written      the report and the room after each reply
 --   positive             with 0, the modulus is positive
 --   merged-poly, merged-coef, merged-count      with 0, the polynomial in the room, its coefficients and its number of terms
-use Prim.Native.Nat.{ℕ, _+_, _*_, _-_, _<_, _≤_}
+use Prim.Native.Nat.{ℕ, _+_, _*_, _<_, _≤_}
 use mathlib.Core.Path.{_≡_, refl, sym, _∙_, ap}
 use mathlib.Core.Bool.{Bool, true}
 use mathlib.Core.List.{List, [], _++_}
 use mathlib.Core.Logic.{_⊎_, inl, inr, _↔_}
 use native.Mathlib.Decide.{ℕ-discrete, decLe}
 use native.Mathlib.Omega.{arith}
-use lib.ListN.{length, take, replicate}
-use lib.Seq.{take-at}
+use lib.ListN.{length, take}
 use borrow.Author.Tests.{eq-eqb, ne-eqb, le-leb, lt-leb}
 use Rattle.algebra.specs.Residues.{Same, pick}
 use Rattle.algebra.specs.Monomials.{Letters}
@@ -28,11 +27,12 @@ use Rattle.monomial.proofs.Laws.{fit}
 use Rattle.poly.specs.Words.{records, polyOf, wordsOf, filled}
 use Rattle.poly.specs.Reports.{none, refusal, done, firstOr}
 use Rattle.poly.specs.declared.report.Report.{Report}
-use Rattle.poly.proofs.Readings.{codedPoly, flat-coded, length-flat, length-coded, poly-words, valid-fits}
+use Rattle.poly.proofs.Readings.{valid-fits}
 use Rattle.ring.specs.Outcomes.{Outcome, outcome, cleared, inRoom}
 use Rattle.ring.specs.Calls.{twoInputs}
 use Rattle.ring.specs.Merging.{signed}
 use Rattle.ring.proofs.Refusals.{Good, inputs-good, due-within}
+use Rattle.ring.proofs.Transport.{filled-poly}
 use Rattle.ring.proofs.Merging.{signed-all, result, mergedOf}
 
 -- the first of 1 to 6 that is due; its number is 0 where none is
@@ -117,10 +117,7 @@ module _ (p : ℕ) (minus : Bool) (a b room : List ℕ) (r : Report) (out : List
     merged-poly =
         let f = polyOf base a ++ signed p minus (polyOf base b) in
         let fits : All (λ m. fit base m ≡ true) (result p minus a b) = norm-all (Lex 4) (good .positive) (λ m. fit base m ≡ true) f (all-append (λ m. fit base m ≡ true) (polyOf base a) (signed p minus (polyOf base b)) (valid-fits p a (good .first)) (signed-all p minus (λ m. fit base m ≡ true) (polyOf base b) (valid-fits p b (good .second)))) in
-        let long : length (wordsOf base (result p minus a b)) ≡ 2 * r .first = ap length (sym (flat-coded base (result p minus a b))) ∙ length-flat (codedPoly base (result p minus a b)) ∙ ap (λ (n : ℕ). 2 * n) (length-coded base (result p minus a b) ∙ sym first-terms) in
-        ap (λ (s : List ℕ). polyOf base (take (2 * r .first) s)) (merged-written t .1)
-        ∙ ap (polyOf base) (take-at (wordsOf base (result p minus a b)) (replicate (length room - length (wordsOf base (result p minus a b))) 0) (2 * r .first) long)
-        ∙ poly-words base (result p minus a b) fits
+        (λ d. polyOf base (take (2 * first-terms d) (merged-written t .1 d))) ∙ filled-poly (result p minus a b) (length room) fits
 
     pub merged-coef : (m : Letters 4 .Mon) → Same p (coef (polyOf base (take (2 * r .first) out)) m) (coef (polyOf base a) m + coef (signed p minus (polyOf base b)) m)
     merged-coef m =
