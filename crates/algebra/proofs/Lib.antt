@@ -6,6 +6,7 @@ pub mod Primes
 pub mod Totals
 pub mod NormalForm
 pub mod Ring
+pub mod Sorted
 pub mod Leads
 pub mod Degrees
 pub mod Walk

@@ -3,10 +3,12 @@
 --   Small p f                     every number of f is below p
 --   all-map, all-append           of `All P f`: every monomial of f has the property P
 --   below-trans                   of `Below O m f`: every monomial of f is below m
---   below-coef                    the coefficient at a monomial that all are below is 0
+--   apart, below-coef             a term below m is not at m; the coefficient at a monomial that all are below is 0
+--   only-here                     of a monomial and itself
 --   sorted-falling, sorted-small, sorted-all, sorted-total      of `sorted`
 --   norm-normal, norm-all, norm-total, norm-equal             of `norm`
 --   equal-refl, equal-sym, equal-trans                          of `Equal`
+--   same-tails                    equal polynomials with the same first term have equal rests
 --   normal-unique                 normal polynomials that are equal are the same list
 --   norm-unique, norm-self        equal polynomials have one normal form; a normal polynomial is its own
 --   equal-total                   equal polynomials have the same totals
@@ -64,7 +66,8 @@ module _ {K : Monomials} (O : Order K) where
   pub below-trans : (m n : K .Mon) → O .less m n → (f : Poly K) → Below O m f → Below O n f
   below-trans m n h f b = all-map {P = λ x. O .less x m} {Q = λ x. O .less x n} (λ x k. O .transitive x m n k h) f b
 
-  apart : (m n : K .Mon) (c : ℕ) (d : Dec (n ≡ m)) → O .less n m → only d c ≡ 0
+  -- a term below m is not at m
+  pub apart : (m n : K .Mon) (c : ℕ) (d : Dec (n ≡ m)) → O .less n m → only d c ≡ 0
   apart m n c (yes e) h = absurd (O .irreflexive m (subst (λ x. O .less x m) e h))
   apart m n c (no k) h = refl
 
@@ -72,7 +75,7 @@ module _ {K : Monomials} (O : Order K) where
   below-coef m [] b = refl
   below-coef m (u ∷ f) b = omega (arith, apart m (u .mon) (u .num) (K .decide (u .mon) m) (b .0), below-coef m f (b .1))
 
-only-here : {A : Type 0} (m : A) (d : Dec (m ≡ m)) (c : ℕ) → only d c ≡ c
+pub only-here : {A : Type 0} (m : A) (d : Dec (m ≡ m)) (c : ℕ) → only d c ≡ c
 only-here m (yes e) c = refl
 only-here m (no n) c = absurd (n refl)
 
@@ -192,7 +195,8 @@ module _ {K : Monomials} (O : Order K) {p : ℕ} where
       let z : u .num ≡ 0 = same-below k (omega arith) (same-trans (same-eq (sym (lead-coef O u f b))) (same-trans (e .equal (u .mon)) (same-eq (below-coef O (u .mon) g c)))) in
       omega arith
 
-  same-tails : (u v : Term K) (f g : Poly K) → u .mon ≡ v .mon → u .num ≡ v .num → Equal p (u ∷ f) (v ∷ g) → Equal p f g
+  -- equal polynomials with the same first term have equal rests
+  pub same-tails : (u v : Term K) (f g : Poly K) → u .mon ≡ v .mon → u .num ≡ v .num → Equal p (u ∷ f) (v ∷ g) → Equal p f g
   same-tails u v f g m c e =
       record {
         equal =

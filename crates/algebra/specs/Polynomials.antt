@@ -3,6 +3,7 @@
 --
 --   Term K, Poly K    a number times a monomial; a list of such terms, read as their sum
 --   coef f m          the coefficient of f at m: the sum of the numbers of the terms there
+--   count m f         how many terms of f stand at m, whatever their numbers
 --   Equal p f g       at every monomial the coefficients of f and g are the same modulo p
 --   f ++ g            the sum
 --   times t f         the term t times f
@@ -38,6 +39,10 @@ only (no n) c = 0
 abbrev pub coef : {K : Monomials} → Poly K → K .Mon → ℕ
 coef [] m = 0
 coef {K} (u ∷ f) m = only (K .decide (u .mon) m) (u .num) + coef f m
+
+abbrev pub count : {K : Monomials} → K .Mon → Poly K → ℕ
+count m [] = 0
+count {K} m (u ∷ f) = only (K .decide (u .mon) m) 1 + count m f
 
 pub record Equal {K : Monomials} (p : ℕ) (f g : Poly K) : Type 0 where
   pub equal : (m : K .Mon) → Same p (coef f m) (coef g m)

@@ -11,7 +11,6 @@
 --   pending, left         the products for which row i waits; those for which n rows from row i on wait
 --   Sides p rows cols     words below 2^63 and numbers below p
 --   Live                  all that the tree's functions ask for
---   count m f             how many terms of f stand at the monomial m
 --   Above, Settled        the way from a record to the root; a tree that holds but on such a way
 --   Greater, Next, Climbed, Taken, Planted, Built, Started, Filled    what the functions promise
 use Prim.Native.Nat.{ℕ, zero, suc, _+_, _-_, _*_, _/_, _%_, _^_, _<_, _≤_}
@@ -21,7 +20,7 @@ use mathlib.Core.Logic.{_⊎_}
 use lib.ListN.{length}
 use Rattle.algebra.specs.Monomials.{Numbers}
 use Rattle.algebra.specs.Orders.{Rising}
-use Rattle.algebra.specs.Polynomials.{term, Poly, only, Equal, times, mul, norm}
+use Rattle.algebra.specs.Polynomials.{term, Poly, count, Equal, times, mul, norm}
 use Rattle.poly.specs.Words.{records, wordAt, numberAt, span}
 use Rattle.ring.specs.declared.tree.Node.{Node}
 
@@ -79,11 +78,6 @@ module _ (rows cols : List ℕ) where
     pub long : 4 * records rows ≤ length w
     pub tree : Tree (records rows) w
     pub waiting : (i : ℕ) → i < records rows → Waits w i
-
--- how many terms of f stand at m, whatever their numbers
-abbrev pub count : ℕ → Poly Numbers → ℕ
-count m [] = 0
-count m (u ∷ f) = only (Numbers .decide (u .mon) m) 1 + count m f
 
 -- What the tree's functions promise
 
