@@ -10,5 +10,6 @@ pub mod Sorted
 pub mod Leads
 pub mod Degrees
 pub mod Walk
+pub mod Clauses
 pub mod Exact
 pub mod Coding

@@ -1,8 +1,9 @@
 -- Lists with a term for each monomial: what `sorted` does depends only on coefficients and on which monomials stand in the list.
 --
 --   count-append, count-negated, below-count, head-count    of `count`
+--   all-count, count-all       a property of every monomial, monomial by monomial that stands in the list
 --   Alike p f g                equal polynomials in which the same monomials stand
---   alike-refl, alike-sym, alike-trans, alike-append, alike-negated    of `Alike`
+--   alike-refl, alike-sym, alike-trans, alike-append, alike-negated, alike-all    of `Alike`
 --   sorted-alike               f and its sorted list are alike
 --   falling-unique             falling lists with numbers below p that are alike are the same list
 --   sorted-same, sorted-self   alike polynomials have one sorted list; a falling list with numbers below p is its own
@@ -13,7 +14,7 @@ use mathlib.Core.List.{[], _∷_, _++_}
 use native.Mathlib.Omega.{arith}
 use Rattle.algebra.specs.Monomials.{Monomials}
 use Rattle.algebra.specs.Orders.{Order, Tri, below, level, above}
-use Rattle.algebra.specs.Polynomials.{Term, term, Poly, only, coef, count, Equal, negated, placed, insert, sorted, Below, Falling}
+use Rattle.algebra.specs.Polynomials.{Term, term, Poly, only, coef, count, Equal, negated, placed, insert, sorted, All, Below, Falling}
 use Rattle.algebra.proofs.Residues.{same-eq, same-refl, same-sym, same-trans, same-add, same-below}
 use Rattle.algebra.proofs.Totals.{total, equal-by}
 use Rattle.algebra.proofs.NormalForm.{
@@ -54,6 +55,22 @@ module _ {K : Monomials} where
   pub head-count : (u : Term K) (f : Poly K) → 0 < count (u .mon) (u ∷ f)
   head-count u f = omega (arith, only-here (u .mon) (K .decide (u .mon) (u .mon)) 1)
 
+  -- what stands in a list of one term more
+  stands-head : (m : K .Mon) (u : Term K) (f : Poly K) → 0 < count m f → 0 < count m (u ∷ f)
+  stands-head m u f h = omega arith
+
+  pub count-all : (P : K .Mon → Type 0) (f : Poly K) → ((m : K .Mon) → 0 < count m f → P m) → All P f
+  count-all P [] h = tt
+  count-all P (u ∷ f) h = (h (u .mon) (head-count u f), count-all P f (λ m k. h m (stands-head m u f k)))
+
+  pub all-count : (P : K .Mon → Type 0) (f : Poly K) → All P f → (m : K .Mon) → 0 < count m f → P m
+  all-count P [] a m h = absurd (omega arith)
+  all-count P (u ∷ f) a m h = go (K .decide (u .mon) m) h (all-count P f (a .1) m)
+    where
+      go : (d : Dec (u .mon ≡ m)) → 0 < only d 1 + count m f → (0 < count m f → P m) → P m
+      go (yes e) k rest = subst P e (a .0)
+      go (no n) k rest = rest (omega arith)
+
   pub record Alike (p : ℕ) (f g : Poly K) : Type 0 where
     pub equal : Equal p f g
     pub there : (m : K .Mon) → 0 < count m f → 0 < count m g
@@ -73,6 +90,9 @@ module _ {K : Monomials} {p : ℕ} where
         there = λ m h. b .there m (a .there m h);
         back = λ m h. a .back m (b .back m h);
       }
+
+  pub alike-all : (P : K .Mon → Type 0) {f g : Poly K} → Alike p f g → All P f → All P g
+  alike-all P {f} {g} a h = count-all P g (λ m k. all-count P f h m (a .back m k))
 
   pub alike-append : Order K → 0 < p → {f f′ g g′ : Poly K} → Alike p f f′ → Alike p g g′ → Alike p (f ++ g) (f′ ++ g′)
   alike-append O pos {f} {f′} {g} {g′} a b =

@@ -4,6 +4,7 @@ pub mod Rooms
 pub mod Ways
 pub mod Taking
 pub mod Planting
+pub mod Adding
 pub mod Filling
 pub mod Bursts
 pub mod Transport

@@ -127,7 +127,7 @@ module _ (rows cols : List ℕ) where
   pending-empty w i e =
       ap (λ x. unlessEmpty x (times (rowTerm i) (span cols (columnOf (numberAt w (records rows + i))) (records cols - columnOf (numberAt w (records rows + i)))))) e
 
-  pending-first : (w : List ℕ) (k tag : ℕ) → 0 < k → Hand w k tag → pending rows cols w (rowOf tag) ≡ term (k - 1) (numberAt rows (rowOf tag) * numberAt cols (columnOf tag)) ∷ later (rowOf tag) (columnOf tag)
+  pub pending-first : (w : List ℕ) (k tag : ℕ) → 0 < k → Hand w k tag → pending rows cols w (rowOf tag) ≡ term (k - 1) (numberAt rows (rowOf tag) * numberAt cols (columnOf tag)) ∷ later (rowOf tag) (columnOf tag)
   pending-first w k tag pos h =
       let c = columnOf tag in
       let positive : 0 < wordAt w (records rows + rowOf tag) = omega (arith, h .leaf-key) in

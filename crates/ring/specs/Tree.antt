@@ -12,7 +12,7 @@
 --   Sides p rows cols     words below 2^63 and numbers below p
 --   Live                  all that the tree's functions ask for
 --   Above, Settled        the way from a record to the root; a tree that holds but on such a way
---   Greater, Next, Climbed, Taken, Planted, Built, Started, Filled    what the functions promise
+--   Greater, Next, Climbed, Taken, Added, Planted, Built, Started, Filled    what the functions promise
 use Prim.Native.Nat.{ℕ, zero, suc, _+_, _-_, _*_, _/_, _%_, _^_, _<_, _≤_}
 use mathlib.Core.Path.{_≡_}
 use mathlib.Core.List.{List, [], _∷_, _++_}
@@ -121,6 +121,17 @@ pub record Taken (p : ℕ) (rows cols : List ℕ) (k : ℕ) (w w′ : List ℕ) 
   pub sums : Equal p (left rows cols w 0 (records rows)) (term (k - 1) r ∷ left rows cols w′ 0 (records rows))
   pub counts : (m : ℕ) → (m ≡ k - 1 → ⊥) → count m (left rows cols w 0 (records rows)) ≡ count m (left rows cols w′ 0 (records rows))
   pub lower : ((i : ℕ) → suc i < records cols → wordAt cols (suc i) < wordAt cols i) → wordAt w 1 ≤ k → wordAt w′ 1 < k
+
+-- one more row waits for its products from a column on, and what waited before still does; no key is k or greater
+pub record Added (rows cols : List ℕ) (row column k : ℕ) (w w′ : List ℕ) : Type 0 where
+  pub as-long : length w′ ≡ length w
+  pub live : Live rows cols w′
+  pub before : Poly Numbers
+  pub after : Poly Numbers
+  pub was : left rows cols w 0 (records rows) ≡ before ++ after
+  pub becomes : left rows cols w′ 0 (records rows) ≡ before ++ (times (term (wordAt rows row) (numberAt rows row)) (span cols column (records cols - column)) ++ after)
+  pub others : (i : ℕ) → i < records rows → (i ≡ row → ⊥) → wordAt w′ (records rows + i) ≡ wordAt w (records rows + i)
+  pub lower : wordAt w′ 1 < k
 
 -- the leaves of the first n rows wait for the product with a word
 pub record Planted (rows : List ℕ) (word : ℕ) (w : List ℕ) (n : ℕ) (w′ : List ℕ) : Type 0 where

@@ -1,11 +1,11 @@
 // A winner tree in the work array, four words a row: it finds the greatest of the products for which the rows wait.
 // A climb touches one record a level, and nothing moves; a zeroed array is a tree in which nothing waits.
 ghost use mathlib.Core.Path.{_≡_};
-ghost use Prim.Native.Nat.{ℕ, _*_, _-_, _<_, _≤_, _^_};
+ghost use Prim.Native.Nat.{ℕ, _+_, _*_, _-_, _<_, _≤_, _^_};
 ghost use lib.ListN.{length};
 ghost use Rattle.field.specs.Moduli.{limit};
 ghost use Rattle.poly.specs.Words.{records, wordAt};
-ghost use Rattle.ring.specs.Tree.{Live, Sides, Settled, Greater, Next, Climbed, Taken, Planted, Built, Started};
+ghost use Rattle.ring.specs.Tree.{Live, Sides, Settled, Greater, Next, Climbed, Taken, Added, Planted, Built, Started};
 
 // What one row counts in a tag: the columns lie below.
 const ROW: u64 = 0x100000000;
@@ -36,6 +36,19 @@ pub fn take(p: u64, rows: &[u64], cols: &[u64], work: &mut [u64], k: u64) -> u64
         at = climb(work, count, count + row, next.key, next.tag, k);
     }
     sum
+}
+
+// Lets one more row wait for its products from a column on. No key is as great as k, so the climb ends at the root.
+pub fn add(rows: &[u64], cols: &[u64], work: &mut [u64], row: usize, column: usize, k: u64)
+    requires { ⌜ (row < records (now rows)) × (records (now rows) < 2 ^ 32) × (column < records (now cols)) × (records (now cols) < 2 ^ 32) ⌝ }
+    requires { ⌜ (wordAt (now work) (records (now rows) + row) ≡ 0) × (wordAt (now rows) row + wordAt (now cols) column + 1 < k) × (wordAt (now work) 1 < k) ⌝ }
+    requires { ⌜ Live (now rows) (now cols) (now work) ⌝ }
+    ensures { λ r. ⌜ Added (now (rows .entry)) (now (cols .entry)) row column k (now (work .entry)) (now (work .exit)) ⌝ }
+{
+    let count = rows.len() / 2;
+    let key = rows[2 * row] + cols[2 * column] + 1;
+    let tag = (row as u64) * ROW + (column as u64);
+    climb(work, count, count + row, key, tag, k);
 }
 
 // Lets every row wait for its product with the first column.
