@@ -8,15 +8,15 @@
 --   falling-unique             falling lists with numbers below p that are alike are the same list
 --   sorted-same, sorted-self   alike polynomials have one sorted list; a falling list with numbers below p is its own
 --   sorted-head                how the sorted list splits at its greatest monomial
-use Prim.Native.Nat.{ℕ, zero, suc, _+_, _%_, _<_}
+use Prim.Native.Nat.{ℕ, zero, suc, _+_, _<_}
 use mathlib.Core.Path.{_≡_, refl, sym, _∙_, ap, subst}
 use mathlib.Core.List.{[], _∷_, _++_}
 use native.Mathlib.Omega.{arith}
 use Rattle.algebra.specs.Monomials.{Monomials}
 use Rattle.algebra.specs.Orders.{Order, Tri, below, level, above}
 use Rattle.algebra.specs.Polynomials.{Term, term, Poly, only, coef, count, Equal, negated, placed, insert, sorted, All, Below, Falling}
-use Rattle.algebra.proofs.Residues.{same-eq, same-refl, same-sym, same-trans, same-add, same-below}
-use Rattle.algebra.proofs.Totals.{total, equal-by}
+use Rattle.algebra.proofs.Residues.{same-eq, same-trans, same-below}
+use Rattle.algebra.proofs.Totals.{equal-by}
 use Rattle.algebra.proofs.NormalForm.{
   Small,
   equal-refl,

@@ -4,16 +4,15 @@
 --   adds                   a leaf that was empty now waits: the climb ended at the root, and what is left has the new products
 --   row-written            a row may be written while its leaf is empty: the tree holds, and the same products are left
 --   root-stands            the product at the root's key is among those left
-use Prim.Native.Nat.{ℕ, zero, suc, _+_, _-_, _*_, _/_, _%_, _^_, _<_, _≤_}
+use Prim.Native.Nat.{ℕ, zero, suc, _+_, _-_, _*_, _/_, _^_, _<_, _≤_}
 use mathlib.Core.Path.{_≡_, refl, sym, _∙_, ap, subst}
-use mathlib.Core.List.{List, [], _∷_, _++_, append-assoc}
+use mathlib.Core.List.{List, _++_, append-assoc}
 use mathlib.Core.Logic.{_⊎_, inl, inr}
 use native.Mathlib.Nat.{le-refl, add-zero, zero-add}
 use native.Mathlib.Decide.{ℕ-discrete}
 use native.Mathlib.Omega.{arith}
-use lib.ListN.{length}
 use Rattle.algebra.specs.Monomials.{Numbers}
-use Rattle.algebra.specs.Polynomials.{Term, term, Poly, count, times}
+use Rattle.algebra.specs.Polynomials.{term, Poly, count, times}
 use Rattle.algebra.proofs.Sorted.{count-append, head-count}
 use Rattle.poly.specs.Words.{records, wordAt, numberAt, span}
 use Rattle.ring.specs.Tree.{Tree, Settled, rowOf, columnOf, Product, Waits, unlessEmpty, pending, left, Live, Climbed, Added}

@@ -16,13 +16,12 @@ use native.Mathlib.Omega.{arith}
 use lib.ListN.{length}
 use Rattle.algebra.specs.Residues.{Same}
 use Rattle.algebra.specs.Monomials.{Numbers}
-use Rattle.algebra.specs.Orders.{Rising}
 use Rattle.algebra.specs.Polynomials.{Term, term, Poly, only, count, Equal, times}
 use Rattle.algebra.proofs.Residues.{same-eq, same-refl, same-sym, same-trans, same-mod, same-add, same-mul}
 use Rattle.algebra.proofs.Totals.{total, equal-by}
 use Rattle.algebra.proofs.NormalForm.{equal-trans}
 use Rattle.poly.specs.Words.{records, wordAt, numberAt, span}
-use Rattle.ring.specs.Tree.{Copy, Tree, Above, Settled, rowOf, columnOf, Product, Waits, unlessEmpty, pending, left, Sides, Live, Next, Climbed, Taken}
+use Rattle.ring.specs.Tree.{Settled, rowOf, columnOf, Product, Waits, unlessEmpty, pending, left, Sides, Live, Next, Climbed, Taken}
 use Rattle.ring.specs.declared.tree.Node.{Node}
 use Rattle.ring.proofs.Ways.{settled-root, root-settled, tree-greatest, Leaf, tree-leaf}
 
