@@ -232,6 +232,7 @@ module _ (rows cols : List ℕ) where
     pub sums : Equal p (left rows cols w₀ 0 (records rows)) (term (k - 1) sum ∷ left rows cols w 0 (records rows))
     pub counts : (m : ℕ) → (m ≡ k - 1 → ⊥) → count m (left rows cols w₀ 0 (records rows)) ≡ count m (left rows cols w 0 (records rows))
     pub lower : ((i : ℕ) → suc i < records cols → wordAt cols (suc i) < wordAt cols i) → wordAt w₀ 1 ≤ k → (y : ℕ) → records rows ≤ y → y < 2 * records rows → wordAt w y ≤ k
+    pub empty : (i : ℕ) → i < records rows → wordAt w₀ (records rows + i) ≡ 0 → wordAt w (records rows + i) ≡ 0
 
   pub take-starts : (p k : ℕ) (w : List ℕ) → 0 < p → 0 < records rows → Live rows cols w → Taking p k w w 0 1
   take-starts p k w pos some l =
@@ -247,6 +248,7 @@ module _ (rows cols : List ℕ) where
         sums = equal-by (λ φ. same-eq (omega arith));
         counts = λ m n. refl;
         lower = λ falls h y f b. le-trans (tree-greatest (records rows) w (l .tree) y (omega arith) b) h;
+        empty = λ i b z. z;
       }
 
   pub take-ends : (p k : ℕ) (w₀ w : List ℕ) (sum at : ℕ) → 0 < records rows → Taking p k w₀ w sum at → (wordAt w at ≡ k → ⊥) → Taken p rows cols k w₀ w sum
@@ -269,6 +271,7 @@ module _ (rows cols : List ℕ) where
                 let root : wordAt w 1 ≡ wordAt w (l .leaf) = l .copy .key in
                 let other : wordAt w 1 ≢ k = λ d. n (ap (wordAt w) e ∙ d) in
                 omega arith;
+            empty = t .empty;
           }
 
   pub take-steps : (p k : ℕ) (w₀ w w′ : List ℕ) (sum at tag e : ℕ) (x : Node) → 0 < p → 0 < k → Sides rows cols p → Taking p k w₀ w sum at → Hand w k tag → Next cols (wordAt rows (rowOf tag)) (columnOf tag) tag x → Climbed (records rows) (records rows + rowOf tag) (x .key) (x .tag) k w w′ e → Taking p k w₀ w′ ((sum + numberAt rows (rowOf tag) * numberAt cols (columnOf tag)) % p) e
@@ -285,6 +288,7 @@ module _ (rows cols : List ℕ) where
         sums = equal-trans (t .sums) (equal-by sums);
         counts = λ m n. t .counts m n ∙ counts m n;
         lower = λ falls l y f b. elim (ℕ-discrete y (records rows + rowOf tag)) [ yes d ↦ omega (arith, ap (wordAt w′) d, c .keyed, next-lower p S w w′ k tag e kpos h x nx c falls) | no d ↦ omega (arith, c .others y f b d .0, t .lower falls l y f b) ];
+        empty = λ i b z. c .others (records rows + i) (omega arith) (omega arith) (λ d. omega (arith, t .empty i b z, ap (wordAt w) d, h .leaf-key)) .0 ∙ t .empty i b z;
       }
     where
       product : ℕ

@@ -112,8 +112,8 @@ pub record Climbed (n x key tag k : ℕ) (w w′ : List ℕ) (e : ℕ) : Type 0 
   pub tagged : numberAt w′ x ≡ tag
   pub others : (y : ℕ) → n ≤ y → y < 2 * n → (y ≡ x → ⊥) → (wordAt w′ y ≡ wordAt w y) × (numberAt w′ y ≡ numberAt w y)
 
--- what was taken is r times the monomial of key k, modulo p; no other monomial went; and nothing is left there where the columns
--- fall and no key was greater
+-- what was taken is r times the monomial of key k, modulo p; no other monomial went; nothing is left there where the columns
+-- fall and no key was greater; and a leaf that was empty still is
 pub record Taken (p : ℕ) (rows cols : List ℕ) (k : ℕ) (w w′ : List ℕ) (r : ℕ) : Type 0 where
   pub as-long : length w′ ≡ length w
   pub live : Live rows cols w′
@@ -121,6 +121,7 @@ pub record Taken (p : ℕ) (rows cols : List ℕ) (k : ℕ) (w w′ : List ℕ) 
   pub sums : Equal p (left rows cols w 0 (records rows)) (term (k - 1) r ∷ left rows cols w′ 0 (records rows))
   pub counts : (m : ℕ) → (m ≡ k - 1 → ⊥) → count m (left rows cols w 0 (records rows)) ≡ count m (left rows cols w′ 0 (records rows))
   pub lower : ((i : ℕ) → suc i < records cols → wordAt cols (suc i) < wordAt cols i) → wordAt w 1 ≤ k → wordAt w′ 1 < k
+  pub empty : (i : ℕ) → i < records rows → wordAt w (records rows + i) ≡ 0 → wordAt w′ (records rows + i) ≡ 0
 
 -- one more row waits for its products from a column on, and what waited before still does; no key is k or greater
 pub record Added (rows cols : List ℕ) (row column k : ℕ) (w w′ : List ℕ) : Type 0 where
