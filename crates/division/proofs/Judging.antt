@@ -1,0 +1,110 @@
+-- The judges on words.
+--
+--   maxima-exponent, maxima-fits      the largest exponents as one monomial; of a valid slice it fits
+--   Words                  the words of the maxima of divisor and dividend, in the plan
+--   reply-word             what a judge says of a quotient term, by its word
+--   passes-room, passes-fits      where a quotient term passes there is room, and its products with the divisor's terms fit
+use Prim.Native.Nat.{ℕ, zero, suc, _+_, _≤_, _<_}
+use mathlib.Core.Path.{_≡_, refl, sym, _∙_, ap}
+use mathlib.Core.Bool.{Bool, true, false}
+use mathlib.Core.List.{List, [], _∷_}
+use native.Mathlib.Decide.{decLt}
+use native.Mathlib.Omega.{arith}
+use lib.Dec.{ltb}
+use borrow.Author.Tests.{ltb-true}
+use Rattle.algebra.specs.Residues.{pick}
+use Rattle.algebra.specs.Monomials.{Letters, exponent}
+use Rattle.algebra.specs.Orders.{exponent-adds}
+use Rattle.algebra.specs.Polynomials.{term, Poly, largest}
+use Rattle.algebra.proofs.NormalForm.{all-map}
+use Rattle.monomial.specs.Layout.{base, isMonomial, fits, divides}
+use Rattle.monomial.proofs.Fields.{fits-letters, exponent-none, divides-fits}
+use Rattle.monomial.proofs.Laws.{read, write, fit, monomial-fits, word-monomial, word-read, sum-monomial, sum-divides}
+use Rattle.poly.specs.Words.{records, wordAt, polyOf}
+use Rattle.poly.specs.Valid.{Valid}
+use Rattle.poly.proofs.Readings.{valid-fits, weight-within}
+use Rattle.ring.proofs.Bursts.{largest-most}
+use Rattle.division.specs.Calls.{maxima, unlessFull}
+use Rattle.division.specs.Walking.{judgesBy, judgesOf, quotientReply, Ready}
+use Rattle.division.specs.declared.plan.Plan.{Plan}
+
+pub maxima-exponent : (f : Poly (Letters 4)) (v : ℕ) → v < 4 → exponent 4 v (maxima f) ≡ largest (exponent 4 v) f
+maxima-exponent f zero h = refl
+maxima-exponent f (suc zero) h = refl
+maxima-exponent f (suc (suc zero)) h = refl
+maxima-exponent f (suc (suc (suc zero))) h = refl
+maxima-exponent f (suc (suc (suc (suc v)))) h = absurd (omega arith)
+
+pub maxima-fits : (p : ℕ) (s : List ℕ) → Valid p s → fit base (maxima (polyOf base s)) ≡ true
+maxima-fits p s h = fits-letters 16 4 (maxima (polyOf base s)) .1 (λ v. go v (decLt v 4))
+  where
+    go : (v : ℕ) → Dec (v < 4) → exponent 4 v (maxima (polyOf base s)) ≤ 32767
+    go v (yes l) =
+        let most : largest (exponent 4 v) (polyOf base s) ≤ 32767 = largest-most (exponent 4 v) 32767 (polyOf base s) (all-map (λ m f. fits-letters 16 4 m .0 f v) (polyOf base s) (valid-fits p s h)) in
+        omega (arith, maxima-exponent (polyOf base s) v l)
+    go v (no l) = omega (arith, exponent-none 16 4 v (maxima (polyOf base s)) (omega arith))
+
+-- a judge's reply is 0 only where its first test passes and there is room
+pick-zero : (t : Bool) (x n : ℕ) → 0 < n → pick t x n ≡ 0 → (t ≡ true) × (x ≡ 0)
+pick-zero true x n h e = (refl, e)
+pick-zero false x n h e = absurd (omega arith)
+
+full-zero : (i room n : ℕ) → 0 < n → unlessFull i room n ≡ 0 → i < room
+full-zero i room n h e = ltb-true i room (pick-zero (ltb i room) 0 n h e .0)
+
+module _ (f g : Poly (Letters 4)) (q r : ℕ) where
+  by-word : (b : Bool) (word i c divisor dividend : ℕ) → isMonomial base word ≡ true → fit base (maxima g) ≡ true → fit base (maxima f) ≡ true → divisor ≡ write base (maxima g) → dividend ≡ write base (maxima f) → judgesBy b f g q r .onQuotient i (term (read base word) c) ≡ quotientReply b divisor dividend q word i
+  by-word true word i c divisor dividend h fg ff eg ef =
+      let d = write base (maxima g) in
+      let n = write base (maxima f) in
+      ap (λ t. pick t (unlessFull i q 10) 12)
+      ((λ x. divides 4 (Letters 4 .mul (read base word) (sym (word-read base (maxima g) fg) x)) (sym (word-read base (maxima f) ff) x))
+      ∙ sym (sum-divides base word d n h (word-monomial base (maxima g) fg) (word-monomial base (maxima f) ff)))
+      ∙ (λ x. quotientReply true (sym eg x) (sym ef x) q word i)
+  by-word false word i c divisor dividend h fg ff eg ef =
+      let d = write base (maxima g) in
+      ap (λ t. pick t (unlessFull i q 10) 9)
+      ((λ x. fit base (Letters 4 .mul (read base word) (sym (word-read base (maxima g) fg) x)))
+      ∙ sym (sum-monomial base word d h (word-monomial base (maxima g) fg)))
+      ∙ (λ x. quotientReply false (sym eg x) dividend q word i)
+
+  by-passes : (b : Bool) (a : Letters 4 .Mon) (i c : ℕ) → fit base (maxima f) ≡ true → judgesBy b f g q r .onQuotient i (term a c) ≡ 0 → (fit base (Letters 4 .mul a (maxima g)) ≡ true) × (i < q)
+  by-passes true a i c ff e =
+      let z = pick-zero (divides 4 (Letters 4 .mul a (maxima g)) (maxima f)) (unlessFull i q 10) 12 (omega arith) e in
+      (divides-fits 16 4 (Letters 4 .mul a (maxima g)) (maxima f) (z .0) ff, full-zero i q 10 (omega arith) (z .1))
+  by-passes false a i c ff e =
+      let z = pick-zero (fit base (Letters 4 .mul a (maxima g))) (unlessFull i q 10) 9 (omega arith) e in
+      (z .0, full-zero i q 10 (omega arith) (z .1))
+
+module _ (p : ℕ) (f g : List ℕ) (plan : Plan) (R : Ready p f g plan) where
+  pub divisor-monomial : isMonomial base (plan .divisor) ≡ true
+  divisor-monomial = ap (isMonomial base) (R .divisor-word) ∙ word-monomial base (maxima (polyOf base g)) (R .divisor-fits)
+
+  module _ (word : ℕ) (h : isMonomial base word ≡ true) (i c : ℕ) where
+    pub reply-word : judgesOf f g plan .onQuotient i (term (read base word) c) ≡ quotientReply (plan .test) (plan .divisor) (plan .dividend) (plan .quotients) word i
+    reply-word =
+        by-word (polyOf base f) (polyOf base g) (plan .quotients) (plan .remainders) (plan .test) word i c (plan .divisor) (plan .dividend) h (R .divisor-fits) (R .dividend-fits) (R .divisor-word) (R .dividend-word)
+
+    module _ (e : quotientReply (plan .test) (plan .divisor) (plan .dividend) (plan .quotients) word i ≡ 0) where
+      passes : (fit base (Letters 4 .mul (read base word) (maxima (polyOf base g))) ≡ true) × (i < plan .quotients)
+      passes = by-passes (polyOf base f) (polyOf base g) (plan .quotients) (plan .remainders) (plan .test) (read base word) i c (R .dividend-fits) (reply-word ∙ e)
+
+      pub passes-room : i < plan .quotients
+      passes-room = passes .1
+
+      pub passes-fits : (x : ℕ) → x < records g → isMonomial base (word + wordAt g x) ≡ true
+      passes-fits x l =
+          sum-monomial base word (wordAt g x) h (R .divisor .monomials x l)
+          ∙ fits-letters 16 4 (Letters 4 .mul (read base word) (read base (wordAt g x))) .1 (λ v. go v (decLt v 4))
+        where
+          go : (v : ℕ) → Dec (v < 4) → exponent 4 v (Letters 4 .mul (read base word) (read base (wordAt g x))) ≤ 32767
+          go v (yes b) =
+              omega (
+                arith,
+                exponent-adds 4 v (read base word) (read base (wordAt g x)),
+                exponent-adds 4 v (read base word) (maxima (polyOf base g)),
+                maxima-exponent (polyOf base g) v b,
+                weight-within g (exponent 4 v) x l,
+                fits-letters 16 4 (Letters 4 .mul (read base word) (maxima (polyOf base g))) .0 (passes .0) v,
+              )
+          go v (no b) = omega (arith, exponent-none 16 4 v (Letters 4 .mul (read base word) (read base (wordAt g x))) (omega arith))

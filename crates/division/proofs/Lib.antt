@@ -1,0 +1,3 @@
+-- Laws of division that more than one function needs.
+pub mod Judging
+pub mod Seen

@@ -1,0 +1,3 @@
+-- Division with remainder, and the divide test. Read in this order.
+pub mod Calls
+pub mod Walking

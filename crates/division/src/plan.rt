@@ -1,0 +1,51 @@
+// What a walk computes once, and the judges that stop it.
+ghost use mathlib.Core.Path.{_≡_};
+ghost use mathlib.Core.Bool.{true};
+ghost use Rattle.algebra.specs.Residues.{pick};
+ghost use Rattle.monomial.specs.Layout.{base, isMonomial};
+ghost use Rattle.division.specs.Calls.{unlessFull};
+ghost use Rattle.division.specs.Walking.{quotientReply, remainderReply};
+
+// Whether the call is the divide test; the words of the largest exponents of divisor and dividend; the inverse of the divisor's
+// lead coefficient; the terms that the rooms can hold.
+pub struct Plan {
+    pub test: bool,
+    pub divisor: u64,
+    pub dividend: u64,
+    pub inverse: u64,
+    pub quotients: usize,
+    pub remainders: usize,
+}
+
+// The reply that stops a quotient term, 0 where it passes. The sum of two words has the sums of their exponents.
+pub fn judge_quotient(plan: Plan, word: u64, terms: usize) -> u64
+    requires { ⌜ (isMonomial base word ≡ true) × (isMonomial base (plan .divisor) ≡ true) ⌝ }
+    ensures { λ r. ⌜ r ≡ quotientReply (plan .test) (plan .divisor) (plan .dividend) (plan .quotients) word terms ⌝ }
+{
+    let sum = word + plan.divisor;
+    if plan.test {
+        reply_if(monomial::divides(sum, plan.dividend), 12, terms, plan.quotients)
+    } else {
+        reply_if(monomial::is_monomial(sum), 9, terms, plan.quotients)
+    }
+}
+
+// The reply given where a quotient term does not pass, else 10 where the room is full.
+fn reply_if(passes: bool, otherwise: u64, terms: usize, room: usize) -> u64
+    ensures { λ r. ⌜ r ≡ pick passes (unlessFull terms room 10) otherwise ⌝ }
+{
+    if !passes {
+        return otherwise;
+    }
+    if terms < room { 0 } else { 10 }
+}
+
+// The reply that stops a remainder term, 0 where it passes.
+pub fn judge_remainder(plan: Plan, terms: usize) -> u64
+    ensures { λ r. ⌜ r ≡ remainderReply (plan .test) (plan .remainders) terms ⌝ }
+{
+    if plan.test {
+        return 12;
+    }
+    if terms < plan.remainders { 0 } else { 11 }
+}
