@@ -1,8 +1,9 @@
 -- The judges on words.
 --
 --   maxima-exponent, maxima-fits      the largest exponents as one monomial; of a valid slice it fits
---   Words                  the words of the maxima of divisor and dividend, in the plan
+--   divisor-monomial       the word of the divisor's maxima is a monomial
 --   reply-word             what a judge says of a quotient term, by its word
+--   remainder-reply, remainder-room      the same of a remainder term
 --   passes-room, passes-fits      where a quotient term passes there is room, and its products with the divisor's terms fit
 use Prim.Native.Nat.{ℕ, zero, suc, _+_, _≤_, _<_}
 use mathlib.Core.Path.{_≡_, refl, sym, _∙_, ap}
@@ -15,7 +16,7 @@ use borrow.Author.Tests.{ltb-true}
 use Rattle.algebra.specs.Residues.{pick}
 use Rattle.algebra.specs.Monomials.{Letters, exponent}
 use Rattle.algebra.specs.Orders.{exponent-adds}
-use Rattle.algebra.specs.Polynomials.{term, Poly, largest}
+use Rattle.algebra.specs.Polynomials.{Term, term, Poly, largest}
 use Rattle.algebra.proofs.NormalForm.{all-map}
 use Rattle.monomial.specs.Layout.{base, isMonomial, fits, divides}
 use Rattle.monomial.proofs.Fields.{fits-letters, exponent-none, divides-fits}
@@ -25,7 +26,7 @@ use Rattle.poly.specs.Valid.{Valid}
 use Rattle.poly.proofs.Readings.{valid-fits, weight-within}
 use Rattle.ring.proofs.Bursts.{largest-most}
 use Rattle.division.specs.Calls.{maxima, unlessFull}
-use Rattle.division.specs.Walking.{judgesBy, judgesOf, quotientReply, Ready}
+use Rattle.division.specs.Walking.{judgesBy, judgesOf, quotientReply, remainderReply, Ready}
 use Rattle.division.specs.declared.plan.Plan.{Plan}
 
 pub maxima-exponent : (f : Poly (Letters 4)) (v : ℕ) → v < 4 → exponent 4 v (maxima f) ≡ largest (exponent 4 v) f
@@ -75,6 +76,14 @@ module _ (f g : Poly (Letters 4)) (q r : ℕ) where
   by-passes false a i c ff e =
       let z = pick-zero (fit base (Letters 4 .mul a (maxima g))) (unlessFull i q 10) 9 (omega arith) e in
       (z .0, full-zero i q 10 (omega arith) (z .1))
+
+  pub remainder-reply : (b : Bool) (j : ℕ) (u : Term (Letters 4)) → judgesBy b f g q r .onRemainder j u ≡ remainderReply b r j
+  remainder-reply true j u = refl
+  remainder-reply false j u = refl
+
+pub remainder-room : (b : Bool) (room j : ℕ) → remainderReply b room j ≡ 0 → j < room
+remainder-room true room j e = absurd (omega arith)
+remainder-room false room j e = full-zero j room 11 (omega arith) e
 
 module _ (p : ℕ) (f g : List ℕ) (plan : Plan) (R : Ready p f g plan) where
   pub divisor-monomial : isMonomial base (plan .divisor) ≡ true

@@ -1,3 +1,6 @@
 -- Laws of division that more than one function needs.
 pub mod Judging
 pub mod Seen
+pub mod Greatest
+pub mod Rows
+pub mod Onward

@@ -23,21 +23,12 @@ pub fn judge_quotient(plan: Plan, word: u64, terms: usize) -> u64
     ensures { λ r. ⌜ r ≡ quotientReply (plan .test) (plan .divisor) (plan .dividend) (plan .quotients) word terms ⌝ }
 {
     let sum = word + plan.divisor;
+    let full = unless_full(terms, plan.quotients, 10);
     if plan.test {
-        reply_if(monomial::divides(sum, plan.dividend), 12, terms, plan.quotients)
+        choose(monomial::divides(sum, plan.dividend), full, 12)
     } else {
-        reply_if(monomial::is_monomial(sum), 9, terms, plan.quotients)
+        choose(monomial::is_monomial(sum), full, 9)
     }
-}
-
-// The reply given where a quotient term does not pass, else 10 where the room is full.
-fn reply_if(passes: bool, otherwise: u64, terms: usize, room: usize) -> u64
-    ensures { λ r. ⌜ r ≡ pick passes (unlessFull terms room 10) otherwise ⌝ }
-{
-    if !passes {
-        return otherwise;
-    }
-    if terms < room { 0 } else { 10 }
 }
 
 // The reply that stops a remainder term, 0 where it passes.
@@ -47,5 +38,18 @@ pub fn judge_remainder(plan: Plan, terms: usize) -> u64
     if plan.test {
         return 12;
     }
-    if terms < plan.remainders { 0 } else { 11 }
+    unless_full(terms, plan.remainders, 11)
+}
+
+// The reply given where a room already holds its terms.
+fn unless_full(terms: usize, room: usize, reply: u64) -> u64
+    ensures { λ r. ⌜ r ≡ unlessFull terms room reply ⌝ }
+{
+    if terms < room { 0 } else { reply }
+}
+
+fn choose(passes: bool, reply: u64, otherwise: u64) -> u64
+    ensures { λ r. ⌜ r ≡ pick passes reply otherwise ⌝ }
+{
+    if passes { reply } else { otherwise }
 }

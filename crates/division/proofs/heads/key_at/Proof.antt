@@ -1,32 +1,31 @@
+-- `division::heads::key_at` meets its contract.
+use Prim.Native.Nat.{ℕ, _+_}
+use mathlib.Core.Path.{sym, ap}
+use native.Mathlib.Omega.{arith}
+use borrow.Author.Tests.{lt-ltb, le-ltb}
 use borrow.Author.Needs.{needs}
+use Rattle.algebra.specs.Residues.{pick}
+use Rattle.poly.specs.Words.{records, wordAt}
 use Rattle.division.proofs.heads.key_at.Statement.{statement}
 use Rattle.division.proofs.heads.key_at.Tie as tie
-use Rattle.division.proofs.heads.key_at.Reads as reads
-use Rattle.division.proofs.heads.key_at.Lts as lts
 
--- src/heads.rt:25:28
 mul-result : tie.Need-mul-result
 mul-result c = search needs
 
--- src/heads.rt:25:26
 mul-result-2 : tie.Need-mul-result-2
 mul-result-2 c = search needs
 
--- src/heads.rt:25:26
 shared-slice-read-result : tie.Need-shared-slice-read-result
 shared-slice-read-result c = search needs
 
--- src/heads.rt:25:26
 add-result : tie.Need-add-result
-add-result c = ?
+add-result c = omega (arith, c .before .before .pre (c .before .if1 .taken))
 
--- src/heads.rt:21:1
 returns : tie.Need-returns
-returns c = ?
+returns c = let a = c .before .before .args in sym (ap (λ b. pick b (wordAt (a .f .now) (a .i) + 1) 0) (lt-ltb (a .i) (records (a .f .now)) (c .before .if1 .taken)))
 
--- src/heads.rt:21:1
 returns-2 : tie.Need-returns-2
-returns-2 c = ?
+returns-2 c = let a = c .before .args in sym (ap (λ b. pick b (wordAt (a .f .now) (a .i) + 1) 0) (le-ltb (a .i) (records (a .f .now)) (c .if1 .left)))
 
 pub key-at-spec : {M : Type 1} → statement M
 key-at-spec =

@@ -1,18 +1,16 @@
+-- `division::heads::root` meets its contract.
+use mathlib.Core.Path.{sym}
+use lib.ListN.{List·getD-eq-default}
 use borrow.Author.Needs.{needs}
 use Rattle.division.proofs.heads.root.Statement.{statement}
 use Rattle.division.proofs.heads.root.Tie as tie
-use Rattle.division.proofs.heads.root.Reads as reads
-use Rattle.division.proofs.heads.root.Lts as lts
 
--- src/heads.rt:32:37
 shared-slice-read-result : tie.Need-shared-slice-read-result
 shared-slice-read-result c = search needs
 
--- src/heads.rt:29:1
 returns : tie.Need-returns
-returns c = ?
+returns c = sym (List·getD-eq-default (c .before .args .work .now) 0 (c .if1 .taken))
 
--- src/heads.rt:29:1
 returns-2 : tie.Need-returns-2
 returns-2 c = search needs
 

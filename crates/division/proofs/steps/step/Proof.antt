@@ -1,0 +1,149 @@
+-- `division::steps::step` meets its contract.
+use borrow.Author.Needs.{needs}
+use Rattle.division.proofs.steps.step.Statement.{statement}
+use Rattle.division.proofs.steps.step.Tie as tie
+
+take-head-requires : tie.Need-take-head-requires
+take-head-requires c κs = search needs
+
+same-length : tie.Need-same-length
+same-length c = search needs
+
+same-length-2 : tie.Need-same-length-2
+same-length-2 c = search needs
+
+returns : tie.Need-returns
+returns c = ?
+
+sub-monomial : tie.Need-sub-monomial
+sub-monomial c = search needs
+
+shared-slice-read-divides : tie.Need-shared-slice-read-divides
+shared-slice-read-divides c = search needs
+
+divides-requires : tie.Need-divides-requires
+divides-requires c κs = search needs
+
+shared-slice-read-word : tie.Need-shared-slice-read-word
+shared-slice-read-word c = search needs
+
+sub-word : tie.Need-sub-word
+sub-word c = ?
+
+judge-quotient-requires : tie.Need-judge-quotient-requires
+judge-quotient-requires c κs = ?
+
+same-length-3 : tie.Need-same-length-3
+same-length-3 c = search needs
+
+same-length-4 : tie.Need-same-length-4
+same-length-4 c = search needs
+
+returns-2 : tie.Need-returns-2
+returns-2 c = ?
+
+mul-mod-requires : tie.Need-mul-mod-requires
+mul-mod-requires c κs = ?
+
+put-row-requires : tie.Need-put-row-requires
+put-row-requires c κs = ?
+
+add-t34 : tie.Need-add-t34
+add-t34 c = ?
+
+same-length-5 : tie.Need-same-length-5
+same-length-5 c = search needs
+
+same-length-6 : tie.Need-same-length-6
+same-length-6 c = search needs
+
+returns-3 : tie.Need-returns-3
+returns-3 c = ?
+
+judge-remainder-requires : tie.Need-judge-remainder-requires
+judge-remainder-requires c κs = search needs
+
+same-length-7 : tie.Need-same-length-7
+same-length-7 c = search needs
+
+same-length-8 : tie.Need-same-length-8
+same-length-8 c = search needs
+
+returns-4 : tie.Need-returns-4
+returns-4 c = ?
+
+mul-r : tie.Need-mul-r
+mul-r c = search needs
+
+mul-r-2 : tie.Need-mul-r-2
+mul-r-2 c = search needs
+
+slice-write-r : tie.Need-slice-write-r
+slice-write-r c = ?
+
+mul-r-3 : tie.Need-mul-r-3
+mul-r-3 c = search needs
+
+add-r : tie.Need-add-r
+add-r c = search needs
+
+mul-r-4 : tie.Need-mul-r-4
+mul-r-4 c = search needs
+
+slice-write-r-2 : tie.Need-slice-write-r-2
+slice-write-r-2 c = ?
+
+add-t35 : tie.Need-add-t35
+add-t35 c = search needs
+
+same-length-9 : tie.Need-same-length-9
+same-length-9 c = search needs
+
+same-length-10 : tie.Need-same-length-10
+same-length-10 c = search needs
+
+same-length-11 : tie.Need-same-length-11
+same-length-11 c = search needs
+
+returns-5 : tie.Need-returns-5
+returns-5 c = ?
+
+pub step-spec : {M : Type 1} → statement M
+step-spec =
+    tie.close
+    (tie.spec
+    take-head-requires
+    same-length
+    same-length-2
+    returns
+    sub-monomial
+    shared-slice-read-divides
+    divides-requires
+    shared-slice-read-word
+    sub-word
+    judge-quotient-requires
+    same-length-3
+    same-length-4
+    returns-2
+    mul-mod-requires
+    put-row-requires
+    add-t34
+    same-length-5
+    same-length-6
+    returns-3
+    judge-remainder-requires
+    same-length-7
+    same-length-8
+    returns-4
+    mul-r
+    mul-r-2
+    slice-write-r
+    mul-r-3
+    add-r
+    mul-r-4
+    slice-write-r-2
+    add-t35
+    same-length-9
+    same-length-10
+    same-length-11
+    returns-5)
