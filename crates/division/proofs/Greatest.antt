@@ -1,6 +1,7 @@
 -- The greatest monomial of what remains.
 --
---   key-here, key-beyond       the key of a record, and behind the last
+--   key-here, key-beyond, key-within      the key of a record, and behind the last; only a record that is there has one
+--   max-other, max-lower       of the greater of two numbers
 --   key-next                   the next record's key is lower
 --   rest-below                 all that remains is below a word where no key is greater
 --   nothing-taken              in an empty quotient room nothing waits
@@ -47,6 +48,10 @@ module _ (f : List ℕ) (i : ℕ) where
 
   pub key-beyond : records f ≤ i → keyAt f i ≡ 0
   key-beyond h = ap (λ b. pick b (wordAt f i + 1) 0) (le-ltb i (records f) h)
+
+-- only a record that is there has a key
+pub key-within : (f : List ℕ) (i : ℕ) → 0 < keyAt f i → i < records f
+key-within f i h = elim (decLt i (records f)) [ yes l ↦ l | no l ↦ absurd (omega (arith, key-beyond f i (omega arith))) ]
 
 pub key-next : (f : List ℕ) → ((i : ℕ) → suc i < records f → wordAt f (suc i) < wordAt f i) → (i : ℕ) → i < records f → keyAt f (i + 1) < wordAt f i + 1
 key-next f falls i h = go (decLt (i + 1) (records f))

@@ -2,16 +2,18 @@
 --
 --   step-skips                        the monomial was cancelled
 --   quotient-word                     the quotient's word is a monomial, and the lead's times it is the one divided
+--   factors-small, row-asked          what the product of its coefficient and the new row ask for
 --   step-stops-quotient, step-divides      the quotient term is refused; it is written, and its products wait
 --   step-stops-remainder, step-moves       the remainder term is refused; it is written
-use Prim.Native.Nat.{ℕ, zero, suc, _+_, _-_, _*_, _/_, _%_, _<_, _≤_, max}
+use Prim.Native.Nat.{ℕ, zero, suc, _+_, _-_, _*_, _/_, _%_, _^_, _<_, _≤_, max}
 use mathlib.Core.Path.{_≡_, refl, sym, _∙_, ap, subst}
 use mathlib.Core.Bool.{Bool, true, false}
 use mathlib.Core.List.{List, [], _∷_, _++_}
-use native.Mathlib.Nat.{mod-lt, pos-of-ne-zero, le-max-left}
+use native.Mathlib.Nat.{mod-lt, pos-of-ne-zero, le-max-left, le-max-right}
 use native.Mathlib.Numerals.{add-one}
 use native.Mathlib.Decide.{ℕ-discrete}
 use native.Mathlib.Omega.{arith}
+use lib.Dec.{eqb}
 use lib.ListN.{length}
 use Rattle.algebra.specs.Residues.{inverse}
 use Rattle.algebra.specs.Monomials.{Letters, Numbers}
@@ -19,9 +21,11 @@ use Rattle.algebra.specs.Orders.{Lex, Rising}
 use Rattle.algebra.specs.Polynomials.{Term, term, Poly, times, negated, sorted, All, Below}
 use Rattle.algebra.specs.Walk.{Walked, toQuotient, toRemainder, remains}
 use Rattle.algebra.proofs.Tests.{never}
+use Rattle.algebra.proofs.Scan.{first-within}
 use Rattle.algebra.proofs.NormalForm.{all-append}
 use Rattle.algebra.proofs.Sorted.{Alike, alike-all, sorted-head, sorted-same}
 use Rattle.algebra.proofs.Clauses.{joined, joined-quotient, joined-remainder, quotient-stopped, remainder-stopped, walk-skips, walk-quotient, walk-remainder}
+use Rattle.field.specs.Moduli.{limit}
 use Rattle.monomial.specs.Layout.{base, isMonomial, dividesOf}
 use Rattle.monomial.proofs.Laws.{read, write, monomial-fits, monomial-word, divides-iff, word-divides, sum-exponents}
 use Rattle.poly.specs.Words.{records, wordAt, numberAt, termAt, terms, span, polyOf}
@@ -39,6 +43,10 @@ use Rattle.division.proofs.Rows.{rows-alike}
 
 abbrev pub state : ℕ → ℕ → ℕ → ℕ → State
 state i n j reply = record { next = i; quotient = n; remainder = j; reply = reply }
+
+inverse-within : (p a : ℕ) → inverse p a ≤ 1 + (p - 1)
+unfolding inverse
+inverse-within p a = first-within (λ x. eqb (a * x % p) 1) 1 (p - 1)
 
 abbrev isWord : ℕ → Type 0
 isWord m = isMonomial base m ≡ true
@@ -114,6 +122,9 @@ module _ (p : ℕ) (f g : List ℕ) (plan : Plan) (R : Ready p f g plan) (q r w 
         lower = λ x. H .lower;
       }
 
+  pub factors-small : (c ≤ limit) × (plan .inverse ≤ limit)
+  factors-small = (omega (arith, H .small, R .within), omega (arith, R .inverted, inverse-within p (numberAt g 0), R .within, R .positive))
+
   module _ (c-some : c ≡ 0 → ⊥) where
     positive : 0 < c
     positive = pos-of-ne-zero c-some
@@ -157,9 +168,22 @@ module _ (p : ℕ) (f g : List ℕ) (plan : Plan) (R : Ready p f g plan) (q r w 
             lower = λ x. absurd (z x);
           }
 
-      module _ (e : quotientReply (plan .test) (plan .divisor) (plan .dividend) (plan .quotients) word n ≡ 0) (q′ w″ : List ℕ) (P : RowPut g q w′ n word number k q′ w″) where
+      module _ (e : quotientReply (plan .test) (plan .divisor) (plan .dividend) (plan .quotients) word n ≡ 0) where
+        has-room : n < records q
+        has-room = omega (arith, passes-room p f g plan R word (quotient-word .0) n number e, W .quotients)
+
+        pub row-asked : ((n < records q) × (records q < 2 ^ 32) × (0 < records g) × (records g < 2 ^ 32) × ((x : ℕ) → suc x < records g → wordAt g (suc x) < wordAt g x)) × (((wordAt w′ (records q + n) ≡ 0) × (word + wordAt g 0 + 1 ≡ k) × (wordAt w′ 1 < k)) × Live q g w′)
+        row-asked = (
+          (has-room, W .sides .few .0, R .some, R .few, R .divisor .falls),
+          ((H .empty n has-room (W .unwritten n (omega arith) has-room), omega (arith, quotient-word .1), omega (arith, H .lower, le-max-right (keyAt f i′) (wordAt w′ 1))), H .live),
+        )
+
+      module _ (e : quotientReply (plan .test) (plan .divisor) (plan .dividend) (plan .quotients) word n ≡ 0) (q′ w″ : List ℕ) (m : ℕ) (product : m ≡ c * plan .inverse % p) (put-m : RowPut g q w′ n word m k q′ w″) where
+        P : RowPut g q w′ n word number k q′ w″
+        P = subst (λ x. RowPut g q w′ n word x k q′ w″) (product ∙ ap (λ x. c * x % p) (R .inverted)) put-m
+
         room : n < records q
-        room = omega (arith, passes-room p f g plan R word (quotient-word .0) n number e, W .quotients)
+        room = row-asked e .0 .0
 
         inside : 2 * n + 1 < length q
         inside = omega (arith, room)

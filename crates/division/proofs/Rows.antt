@@ -31,11 +31,10 @@ module _ (g q w : List ℕ) (n word number k : ℕ) (h : n < records q) (empty :
   inside : 2 * n + 1 < length q
   inside = omega arith
 
-  pub row-ready : records q < 2 ^ 32 → records g < 2 ^ 32 → 1 < records g → ((i : ℕ) → suc i < records g → wordAt g (suc i) < wordAt g i) → word + wordAt g 0 + 1 ≡ k → wordAt w 1 < k → ((n < records next) × (records next < 2 ^ 32) × (1 < records g) × (records g < 2 ^ 32)) × ((wordAt w (records next + n) ≡ 0) × (wordAt next n + wordAt g 1 + 1 < k) × (wordAt w 1 < k)) × Live next g w
+  pub row-ready : records q < 2 ^ 32 → records g < 2 ^ 32 → 1 < records g → ((i : ℕ) → suc i < records g → wordAt g (suc i) < wordAt g i) → word + wordAt g 0 + 1 ≡ k → wordAt w 1 < k → ((n < records next) × (records next < 2 ^ 32) × (1 < records g) × (records g < 2 ^ 32)) × (((wordAt w (records next + n) ≡ 0) × (wordAt next n + wordAt g 1 + 1 < k) × (wordAt w 1 < k)) × Live next g w)
   row-ready few fewer some falls key root = (
     (omega (arith, same), omega (arith, same), some, fewer),
-    (ap (λ x. wordAt w (x + n)) same ∙ empty, omega (arith, put-word q n word number inside, falls 0 some), root),
-    row-written q g w n word number empty l .0,
+    ((ap (λ x. wordAt w (x + n)) same ∙ empty, omega (arith, put-word q n word number inside, falls 0 some), root), row-written q g w n word number empty l .0),
   )
 
   pub row-more : (w′ : List ℕ) → Added next g n 1 k w w′ → RowPut g q w n word number k next w′

@@ -1,10 +1,11 @@
 -- `division::heads::take_at` meets its contract.
+use Rattle.division.proofs.Greatest.{nothing-taken}
 use borrow.Author.Needs.{needs}
 use Rattle.division.proofs.heads.take_at.Statement.{statement}
 use Rattle.division.proofs.heads.take_at.Tie as tie
 
 returns : tie.Need-returns
-returns c = ?
+returns c = (nothing-taken _ _ _ _ _ (c .before .before .before .before .pre .0 .0) (c .before .before .before .before .pre .0 .2) (c .before .before .before .before .pre .1 .1 (c .if1 .taken)) (c .before .before .before .before .pre .1 .0), c .before .before .before .before .pre .1 .1)
 
 take-requires : tie.Need-take-requires
 take-requires c κs = search needs

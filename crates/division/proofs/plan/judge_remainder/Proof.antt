@@ -1,4 +1,6 @@
 -- `division::plan::judge_remainder` meets its contract.
+use mathlib.Core.Path.{sym, _∙_}
+use Rattle.division.specs.Walking.{remainderReply}
 use borrow.Author.Needs.{needs}
 use Rattle.division.proofs.plan.judge_remainder.Statement.{statement}
 use Rattle.division.proofs.plan.judge_remainder.Tie as tie
@@ -10,7 +12,7 @@ unless-full-requires : tie.Need-unless-full-requires
 unless-full-requires c κs = search needs
 
 returns-2 : tie.Need-returns-2
-returns-2 c = ?
+returns-2 c = c .unless-full .ensures ∙ (λ d. remainderReply (sym (c .before .if1 .left) d) (c .before .before .args .plan .remainders) (c .before .before .args .terms))
 
 pub judge-remainder-spec : {M : Type 1} → statement M
 judge-remainder-spec = tie.close (tie.spec returns unless-full-requires returns-2)

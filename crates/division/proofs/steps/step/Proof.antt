@@ -1,4 +1,11 @@
 -- `division::steps::step` meets its contract.
+use Prim.Native.Nat.{_+_, _-_, _<_, _≤_, _^_}
+use mathlib.Core.Path.{sym, _∙_, ap}
+use mathlib.Core.Bool.{true, false}
+use native.Mathlib.Omega.{arith}
+use lib.ListN.{length-set}
+use Rattle.division.proofs.Judging.{divisor-monomial}
+use Rattle.division.proofs.Onward.{step-skips, factors-small, quotient-word, row-asked, step-stops-quotient, step-divides, step-stops-remainder, remainder-inside, step-moves}
 use borrow.Author.Needs.{needs}
 use Rattle.division.proofs.steps.step.Statement.{statement}
 use Rattle.division.proofs.steps.step.Tie as tie
@@ -13,7 +20,7 @@ same-length-2 : tie.Need-same-length-2
 same-length-2 c = search needs
 
 returns : tie.Need-returns
-returns c = ?
+returns c = step-skips _ _ _ _ (c .before .before .before .before .before .before .before .before .before .before .before .before .pre .1 .0) _ _ _ _ _ _ (c .before .before .before .before .before .before .before .before .before .before .before .before .pre .1 .1) _ (c .before .before .before .before .before .before .before .before .before .before .before .before .pre .0 .0) (c .before .before .before .before .before .before .before .before .before .before .before .before .pre .0 .1) _ _ _ (c .before .before .before .before .take-head .ensures) (c .if1 .taken)
 
 sub-monomial : tie.Need-sub-monomial
 sub-monomial c = search needs
@@ -28,10 +35,10 @@ shared-slice-read-word : tie.Need-shared-slice-read-word
 shared-slice-read-word c = search needs
 
 sub-word : tie.Need-sub-word
-sub-word c = ?
+sub-word c = omega (arith, quotient-word _ _ _ _ (c .before .before .before .before .before .before .before .before .before .before .before .before .before .before .before .before .pre .1 .0) _ _ _ _ _ _ (c .before .before .before .before .before .before .before .before .before .before .before .before .before .before .before .before .pre .1 .1) _ (c .before .before .before .before .before .before .before .before .before .before .before .before .before .before .before .before .pre .0 .0) (c .before .before .before .before .before .before .before .before .before .before .before .before .before .before .before .before .pre .0 .1) _ _ _ (c .before .before .before .before .before .before .before .before .take-head .ensures) (c .before .before .before .before .if1 .left) (sym (c .before .before .divides .ensures) ∙ c .before .if2 .taken) .1)
 
 judge-quotient-requires : tie.Need-judge-quotient-requires
-judge-quotient-requires c κs = ?
+judge-quotient-requires c κs = (quotient-word _ _ _ _ (c .before .before .before .before .before .before .before .before .before .before .before .before .before .before .before .before .pre .1 .0) _ _ _ _ _ _ (c .before .before .before .before .before .before .before .before .before .before .before .before .before .before .before .before .pre .1 .1) _ (c .before .before .before .before .before .before .before .before .before .before .before .before .before .before .before .before .pre .0 .0) (c .before .before .before .before .before .before .before .before .before .before .before .before .before .before .before .before .pre .0 .1) _ _ _ (c .before .before .before .before .before .before .before .before .take-head .ensures) (c .before .before .before .before .if1 .left) (sym (c .before .before .divides .ensures) ∙ c .before .if2 .taken) .0, divisor-monomial _ _ _ _ (c .before .before .before .before .before .before .before .before .before .before .before .before .before .before .before .before .pre .1 .0))
 
 same-length-3 : tie.Need-same-length-3
 same-length-3 c = search needs
@@ -40,16 +47,16 @@ same-length-4 : tie.Need-same-length-4
 same-length-4 c = search needs
 
 returns-2 : tie.Need-returns-2
-returns-2 c = ?
+returns-2 c = step-stops-quotient _ _ _ _ (c .before .before .before .before .before .before .before .before .before .before .before .before .before .before .before .before .before .before .pre .1 .0) _ _ _ _ _ _ (c .before .before .before .before .before .before .before .before .before .before .before .before .before .before .before .before .before .before .pre .1 .1) _ (c .before .before .before .before .before .before .before .before .before .before .before .before .before .before .before .before .before .before .pre .0 .0) (c .before .before .before .before .before .before .before .before .before .before .before .before .before .before .before .before .before .before .pre .0 .1) _ _ _ (c .before .before .before .before .before .before .before .before .before .before .take-head .ensures) (c .before .before .before .before .before .before .if1 .left) (sym (c .before .before .before .before .divides .ensures) ∙ c .before .before .before .if2 .taken) _ (c .before .judge-quotient .ensures) (c .if3 .taken)
 
 mul-mod-requires : tie.Need-mul-mod-requires
-mul-mod-requires c κs = ?
+mul-mod-requires c κs = let s = factors-small _ _ _ _ (c .before .before .before .before .before .before .before .before .before .before .before .before .before .before .before .before .before .before .before .before .pre .1 .0) _ _ _ _ _ _ (c .before .before .before .before .before .before .before .before .before .before .before .before .before .before .before .before .before .before .before .before .pre .1 .1) _ (c .before .before .before .before .before .before .before .before .before .before .before .before .before .before .before .before .before .before .before .before .pre .0 .0) (c .before .before .before .before .before .before .before .before .before .before .before .before .before .before .before .before .before .before .before .before .pre .0 .1) _ _ _ (c .before .before .before .before .before .before .before .before .before .before .before .before .take-head .ensures) in (c .before .before .before .before .before .before .before .before .before .before .before .before .before .before .before .before .before .before .before .before .pre .1 .0 .positive, s .0, s .1)
 
 put-row-requires : tie.Need-put-row-requires
-put-row-requires c κs = ?
+put-row-requires c κs = row-asked _ _ _ _ (c .before .before .before .before .before .before .before .before .before .before .before .before .before .before .before .before .before .before .before .before .before .pre .1 .0) _ _ _ _ _ _ (c .before .before .before .before .before .before .before .before .before .before .before .before .before .before .before .before .before .before .before .before .before .pre .1 .1) _ (c .before .before .before .before .before .before .before .before .before .before .before .before .before .before .before .before .before .before .before .before .before .pre .0 .0) (c .before .before .before .before .before .before .before .before .before .before .before .before .before .before .before .before .before .before .before .before .before .pre .0 .1) _ _ _ (c .before .before .before .before .before .before .before .before .before .before .before .before .before .take-head .ensures) (c .before .before .before .before .before .before .before .before .before .if1 .left) (sym (c .before .before .before .before .before .before .before .divides .ensures) ∙ c .before .before .before .before .before .before .if2 .taken) (sym (c .before .before .before .before .judge-quotient .ensures) ∙ c .before .before .before .if3 .left)
 
 add-t34 : tie.Need-add-t34
-add-t34 c = ?
+add-t34 c = omega (arith, row-asked _ _ _ _ (c .before .before .before .before .before .before .before .before .before .before .before .before .before .before .before .before .before .before .before .before .before .before .before .before .before .before .pre .1 .0) _ _ _ _ _ _ (c .before .before .before .before .before .before .before .before .before .before .before .before .before .before .before .before .before .before .before .before .before .before .before .before .before .before .pre .1 .1) _ (c .before .before .before .before .before .before .before .before .before .before .before .before .before .before .before .before .before .before .before .before .before .before .before .before .before .before .pre .0 .0) (c .before .before .before .before .before .before .before .before .before .before .before .before .before .before .before .before .before .before .before .before .before .before .before .before .before .before .pre .0 .1) _ _ _ (c .before .before .before .before .before .before .before .before .before .before .before .before .before .before .before .before .before .before .take-head .ensures) (c .before .before .before .before .before .before .before .before .before .before .before .before .before .before .if1 .left) (sym (c .before .before .before .before .before .before .before .before .before .before .before .before .divides .ensures) ∙ c .before .before .before .before .before .before .before .before .before .before .before .if2 .taken) (sym (c .before .before .before .before .before .before .before .before .before .judge-quotient .ensures) ∙ c .before .before .before .before .before .before .before .before .if3 .left) .0)
 
 same-length-5 : tie.Need-same-length-5
 same-length-5 c = search needs
@@ -58,7 +65,7 @@ same-length-6 : tie.Need-same-length-6
 same-length-6 c = search needs
 
 returns-3 : tie.Need-returns-3
-returns-3 c = ?
+returns-3 c = step-divides _ _ _ _ (c .before .before .before .before .before .before .before .before .before .before .before .before .before .before .before .before .before .before .before .before .before .before .before .before .before .before .pre .1 .0) _ _ _ _ _ _ (c .before .before .before .before .before .before .before .before .before .before .before .before .before .before .before .before .before .before .before .before .before .before .before .before .before .before .pre .1 .1) _ (c .before .before .before .before .before .before .before .before .before .before .before .before .before .before .before .before .before .before .before .before .before .before .before .before .before .before .pre .0 .0) (c .before .before .before .before .before .before .before .before .before .before .before .before .before .before .before .before .before .before .before .before .before .before .before .before .before .before .pre .0 .1) _ _ _ (c .before .before .before .before .before .before .before .before .before .before .before .before .before .before .before .before .before .before .take-head .ensures) (c .before .before .before .before .before .before .before .before .before .before .before .before .before .before .if1 .left) (sym (c .before .before .before .before .before .before .before .before .before .before .before .before .divides .ensures) ∙ c .before .before .before .before .before .before .before .before .before .before .before .if2 .taken) (sym (c .before .before .before .before .before .before .before .before .before .judge-quotient .ensures) ∙ c .before .before .before .before .before .before .before .before .if3 .left) _ _ _ (c .before .before .before .before .before .mul-mod .ensures) (c .before .before .before .before .put-row .ensures)
 
 judge-remainder-requires : tie.Need-judge-remainder-requires
 judge-remainder-requires c κs = search needs
@@ -70,7 +77,7 @@ same-length-8 : tie.Need-same-length-8
 same-length-8 c = search needs
 
 returns-4 : tie.Need-returns-4
-returns-4 c = ?
+returns-4 c = step-stops-remainder _ _ _ _ (c .before .before .before .before .before .before .before .before .before .before .before .before .before .before .before .before .before .pre .1 .0) _ _ _ _ _ _ (c .before .before .before .before .before .before .before .before .before .before .before .before .before .before .before .before .before .pre .1 .1) _ (c .before .before .before .before .before .before .before .before .before .before .before .before .before .before .before .before .before .pre .0 .0) (c .before .before .before .before .before .before .before .before .before .before .before .before .before .before .before .before .before .pre .0 .1) _ _ _ (c .before .before .before .before .before .before .before .before .before .take-head .ensures) (c .before .before .before .before .before .if1 .left) (sym (c .before .before .before .divides .ensures) ∙ c .before .before .if2 .left) _ (c .before .judge-remainder .ensures) (c .if4 .taken)
 
 mul-r : tie.Need-mul-r
 mul-r c = search needs
@@ -79,7 +86,7 @@ mul-r-2 : tie.Need-mul-r-2
 mul-r-2 c = search needs
 
 slice-write-r : tie.Need-slice-write-r
-slice-write-r c = ?
+slice-write-r c = omega (arith, remainder-inside _ _ _ _ (c .before .before .before .before .before .before .before .before .before .before .before .before .before .before .before .before .before .pre .1 .0) _ _ _ _ _ _ (c .before .before .before .before .before .before .before .before .before .before .before .before .before .before .before .before .before .pre .1 .1) _ (c .before .before .before .before .before .before .before .before .before .before .before .before .before .before .before .before .before .pre .0 .0) (c .before .before .before .before .before .before .before .before .before .before .before .before .before .before .before .before .before .pre .0 .1) _ _ _ (c .before .before .before .before .before .before .before .before .before .take-head .ensures) (c .before .before .before .before .before .if1 .left) (sym (c .before .before .before .divides .ensures) ∙ c .before .before .if2 .left) (sym (c .before .judge-remainder .ensures) ∙ c .if4 .left))
 
 mul-r-3 : tie.Need-mul-r-3
 mul-r-3 c = search needs
@@ -91,7 +98,7 @@ mul-r-4 : tie.Need-mul-r-4
 mul-r-4 c = search needs
 
 slice-write-r-2 : tie.Need-slice-write-r-2
-slice-write-r-2 c = ?
+slice-write-r-2 c = simp length-set (omega (arith, remainder-inside _ _ _ _ (c .before .before .before .before .before .before .before .before .before .before .before .before .before .before .before .before .before .pre .1 .0) _ _ _ _ _ _ (c .before .before .before .before .before .before .before .before .before .before .before .before .before .before .before .before .before .pre .1 .1) _ (c .before .before .before .before .before .before .before .before .before .before .before .before .before .before .before .before .before .pre .0 .0) (c .before .before .before .before .before .before .before .before .before .before .before .before .before .before .before .before .before .pre .0 .1) _ _ _ (c .before .before .before .before .before .before .before .before .before .take-head .ensures) (c .before .before .before .before .before .if1 .left) (sym (c .before .before .before .divides .ensures) ∙ c .before .before .if2 .left) (sym (c .before .judge-remainder .ensures) ∙ c .if4 .left)))
 
 add-t35 : tie.Need-add-t35
 add-t35 c = search needs
@@ -106,7 +113,7 @@ same-length-11 : tie.Need-same-length-11
 same-length-11 c = search needs
 
 returns-5 : tie.Need-returns-5
-returns-5 c = ?
+returns-5 c = step-moves _ _ _ _ (c .before .before .before .before .before .before .before .before .before .before .before .before .before .before .before .before .before .pre .1 .0) _ _ _ _ _ _ (c .before .before .before .before .before .before .before .before .before .before .before .before .before .before .before .before .before .pre .1 .1) _ (c .before .before .before .before .before .before .before .before .before .before .before .before .before .before .before .before .before .pre .0 .0) (c .before .before .before .before .before .before .before .before .before .before .before .before .before .before .before .before .before .pre .0 .1) _ _ _ (c .before .before .before .before .before .before .before .before .before .take-head .ensures) (c .before .before .before .before .before .if1 .left) (sym (c .before .before .before .divides .ensures) ∙ c .before .before .if2 .left) (sym (c .before .judge-remainder .ensures) ∙ c .if4 .left)
 
 pub step-spec : {M : Type 1} → statement M
 step-spec =
