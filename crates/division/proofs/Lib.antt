@@ -4,3 +4,4 @@ pub mod Seen
 pub mod Greatest
 pub mod Rows
 pub mod Onward
+pub mod Runs

@@ -1,10 +1,17 @@
 // What a walk computes once, and the judges that stop it.
 ghost use mathlib.Core.Path.{_≡_};
 ghost use mathlib.Core.Bool.{true};
-ghost use Rattle.algebra.specs.Residues.{pick};
-ghost use Rattle.monomial.specs.Layout.{base, isMonomial};
-ghost use Rattle.division.specs.Calls.{unlessFull};
-ghost use Rattle.division.specs.Walking.{quotientReply, remainderReply};
+ghost use Prim.Native.Nat.{_<_, _≤_, _^_};
+ghost use Rattle.algebra.specs.Residues.{Prime, pick};
+ghost use Rattle.field.specs.Moduli.{limit};
+ghost use Rattle.monomial.specs.Layout.{base, isMonomial, fits, wordOf};
+ghost use Rattle.poly.specs.Words.{records, polyOf};
+ghost use Rattle.poly.specs.Valid.{Valid};
+ghost use Rattle.division.specs.Calls.{maxima, unlessFull};
+ghost use Rattle.division.specs.Walking.{quotientReply, remainderReply, Ready};
+use field::inverse_mod;
+use monomial::pack;
+use poly::profile::measure;
 
 // Whether the call is the divide test; the words of the largest exponents of divisor and dividend; the inverse of the divisor's
 // lead coefficient; the terms that the rooms can hold.
@@ -15,6 +22,34 @@ pub struct Plan {
     pub inverse: u64,
     pub quotients: usize,
     pub remainders: usize,
+}
+
+// The plan of a call, for inputs that were found good.
+pub fn prepare(p: u64, f: &[u64], g: &[u64], test: bool, quotients: usize, remainders: usize) -> Plan
+    requires { ⌜ (Prime p) × (p ≤ limit) × (0 < records (now g)) × (records (now g) < 2 ^ 32) ⌝ }
+    requires { ⌜ (Valid p (now f)) × (Valid p (now g)) ⌝ }
+    ensures { λ r. ⌜ (Ready p (now (f .entry)) (now (g .entry)) r) × (r .test ≡ test) × (r .quotients ≡ quotients) × (r .remainders ≡ remainders) ⌝ }
+{
+    let divisor = largest_word(g);
+    let dividend = largest_word(f);
+    let inverse = inverse_mod(p, g[1]);
+    Plan {
+        test,
+        divisor,
+        dividend,
+        inverse,
+        quotients,
+        remainders,
+    }
+}
+
+// The word of the largest exponents of a polynomial.
+fn largest_word(s: &[u64]) -> u64
+    requires { ⌜ fits 16 4 (maxima (polyOf base (now s))) ≡ true ⌝ }
+    ensures { λ r. ⌜ r ≡ wordOf 16 4 (maxima (polyOf base (now (s .entry)))) ⌝ }
+{
+    let m = measure(s).exponents;
+    pack(m[0], m[1], m[2], m[3]).value
 }
 
 // The reply that stops a quotient term, 0 where it passes. The sum of two words has the sums of their exponents.

@@ -1,0 +1,93 @@
+-- `division::rules::divide_rules` meets its contract.
+use borrow.Author.Needs.{needs}
+use Rattle.division.proofs.rules.divide_rules.Statement.{statement}
+use Rattle.division.proofs.rules.divide_rules.Tie as tie
+
+last-rules-requires : tie.Need-last-rules-requires
+last-rules-requires c κs = search needs
+
+term-rules-requires : tie.Need-term-rules-requires
+term-rules-requires c κs = search needs
+
+long-rule-requires : tie.Need-long-rule-requires
+long-rule-requires c κs = search needs
+
+or-else-requires : tie.Need-or-else-requires
+or-else-requires c κs = search needs
+
+long-rule-requires-2 : tie.Need-long-rule-requires-2
+long-rule-requires-2 c κs = search needs
+
+or-else-requires-2 : tie.Need-or-else-requires-2
+or-else-requires-2 c κs = search needs
+
+long-rule-requires-3 : tie.Need-long-rule-requires-3
+long-rule-requires-3 c κs = search needs
+
+or-else-requires-3 : tie.Need-or-else-requires-3
+or-else-requires-3 c κs = search needs
+
+long-rule-requires-4 : tie.Need-long-rule-requires-4
+long-rule-requires-4 c κs = search needs
+
+or-else-requires-4 : tie.Need-or-else-requires-4
+or-else-requires-4 c κs = search needs
+
+odd-rule-requires : tie.Need-odd-rule-requires
+odd-rule-requires c κs = search needs
+
+or-else-requires-5 : tie.Need-or-else-requires-5
+or-else-requires-5 c κs = search needs
+
+odd-rule-requires-2 : tie.Need-odd-rule-requires-2
+odd-rule-requires-2 c κs = search needs
+
+or-else-requires-6 : tie.Need-or-else-requires-6
+or-else-requires-6 c κs = search needs
+
+odd-rule-requires-3 : tie.Need-odd-rule-requires-3
+odd-rule-requires-3 c κs = search needs
+
+or-else-requires-7 : tie.Need-or-else-requires-7
+or-else-requires-7 c κs = search needs
+
+odd-rule-requires-4 : tie.Need-odd-rule-requires-4
+odd-rule-requires-4 c κs = search needs
+
+or-else-requires-8 : tie.Need-or-else-requires-8
+or-else-requires-8 c κs = search needs
+
+modulus-rule-requires : tie.Need-modulus-rule-requires
+modulus-rule-requires c κs = search needs
+
+or-else-requires-9 : tie.Need-or-else-requires-9
+or-else-requires-9 c κs = search needs
+
+returns : tie.Need-returns
+returns c = ?
+
+pub divide-rules-spec : {M : Type 1} → statement M
+divide-rules-spec =
+    tie.close
+    (tie.spec
+    last-rules-requires
+    term-rules-requires
+    long-rule-requires
+    or-else-requires
+    long-rule-requires-2
+    or-else-requires-2
+    long-rule-requires-3
+    or-else-requires-3
+    long-rule-requires-4
+    or-else-requires-4
+    odd-rule-requires
+    or-else-requires-5
+    odd-rule-requires-2
+    or-else-requires-6
+    odd-rule-requires-3
+    or-else-requires-7
+    odd-rule-requires-4
+    or-else-requires-8
+    modulus-rule-requires
+    or-else-requires-9
+    returns)
