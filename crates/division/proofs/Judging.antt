@@ -1,6 +1,7 @@
 -- The judges on words.
 --
 --   maxima-exponent, maxima-fits      the largest exponents as one monomial; of a valid slice it fits
+--   packed                 packing the exponents of a profile gives the word of the maxima
 --   divisor-monomial       the word of the divisor's maxima is a monomial
 --   reply-word             what a judge says of a quotient term, by its word
 --   remainder-reply, remainder-room      the same of a remainder term
@@ -12,19 +13,25 @@ use mathlib.Core.List.{List, [], _∷_}
 use native.Mathlib.Decide.{decLt}
 use native.Mathlib.Omega.{arith}
 use lib.Dec.{ltb}
+use lib.ListN.{getD}
 use borrow.Author.Tests.{ltb-true}
 use Rattle.algebra.specs.Residues.{pick}
 use Rattle.algebra.specs.Monomials.{Letters, exponent}
 use Rattle.algebra.specs.Orders.{exponent-adds}
 use Rattle.algebra.specs.Polynomials.{Term, term, Poly, largest}
 use Rattle.algebra.proofs.NormalForm.{all-map}
+use Rattle.field.specs.Answers.{value, noValue}
+use Rattle.field.specs.declared.Value.{Value}
+use Rattle.monomial.specs.Answers.{packOf}
 use Rattle.monomial.specs.Layout.{base, isMonomial, fits, divides}
 use Rattle.monomial.proofs.Fields.{fits-letters, exponent-none, divides-fits}
 use Rattle.monomial.proofs.Laws.{read, write, fit, monomial-fits, word-monomial, word-read, sum-monomial, sum-divides}
 use Rattle.poly.specs.Words.{records, wordAt, polyOf}
 use Rattle.poly.specs.Valid.{Valid}
 use Rattle.poly.proofs.Readings.{valid-fits, weight-within}
-use Rattle.ring.proofs.Bursts.{largest-most}
+use Rattle.poly.specs.Services.{measureOf}
+use Rattle.poly.specs.declared.profile.Profile.{Profile}
+use Rattle.ring.proofs.Bursts.{largest-most, exponents-of}
 use Rattle.division.specs.Calls.{maxima, unlessFull}
 use Rattle.division.specs.Walking.{judgesBy, judgesOf, quotientReply, remainderReply, Ready}
 use Rattle.division.specs.declared.plan.Plan.{Plan}
@@ -44,6 +51,11 @@ maxima-fits p s h = fits-letters 16 4 (maxima (polyOf base s)) .1 (λ v. go v (d
         let most : largest (exponent 4 v) (polyOf base s) ≤ 32767 = largest-most (exponent 4 v) 32767 (polyOf base s) (all-map (λ m f. fits-letters 16 4 m .0 f v) (polyOf base s) (valid-fits p s h)) in
         omega (arith, maxima-exponent (polyOf base s) v l)
     go v (no l) = omega (arith, exponent-none 16 4 v (maxima (polyOf base s)) (omega arith))
+
+pub packed : (s : List ℕ) (m : Profile) → m ≡ measureOf s → fit base (maxima (polyOf base s)) ≡ true → (v : Value) → v ≡ packOf base (getD (m .exponents) 0 0, (getD (m .exponents) 1 0, (getD (m .exponents) 2 0, (getD (m .exponents) 3 0, tt)))) → v .value ≡ write base (maxima (polyOf base s))
+packed s m e h v f =
+    let x = exponents-of s e in
+    ap (λ (y : Value). y .value) (f ∙ (λ d. packOf base (x 0 (omega arith) d, (x 1 (omega arith) d, (x 2 (omega arith) d, (x 3 (omega arith) d, tt))))) ∙ (λ d. pick (h d) (value (write base (maxima (polyOf base s)))) (noValue 4)))
 
 -- a judge's reply is 0 only where its first test passes and there is room
 pick-zero : (t : Bool) (x n : ℕ) → 0 < n → pick t x n ≡ 0 → (t ≡ true) × (x ≡ 0)

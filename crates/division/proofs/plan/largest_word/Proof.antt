@@ -1,4 +1,5 @@
 -- `division::plan::largest_word` meets its contract.
+use Rattle.division.proofs.Judging.{packed}
 use borrow.Author.Needs.{needs}
 use Rattle.division.proofs.plan.largest_word.Statement.{statement}
 use Rattle.division.proofs.plan.largest_word.Tie as tie
@@ -22,7 +23,7 @@ pack-requires : tie.Need-pack-requires
 pack-requires c κs = search needs
 
 returns : tie.Need-returns
-returns c = ?
+returns c = packed _ _ (c .before .before .measure .ensures) (c .before .before .before .before .pre) _ (c .pack .ensures)
 
 pub largest-word-spec : {M : Type 1} → statement M
 largest-word-spec =

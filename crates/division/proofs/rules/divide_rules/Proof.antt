@@ -1,4 +1,8 @@
 -- `division::rules::divide_rules` meets its contract.
+use mathlib.Core.Path.{_∙_, ap}
+use Rattle.poly.specs.Reports.{firstOr}
+use Rattle.poly.proofs.Reports.{chain}
+use Rattle.ring.specs.Calls.{termRules}
 use borrow.Author.Needs.{needs}
 use Rattle.division.proofs.rules.divide_rules.Statement.{statement}
 use Rattle.division.proofs.rules.divide_rules.Tie as tie
@@ -64,7 +68,17 @@ or-else-requires-9 : tie.Need-or-else-requires-9
 or-else-requires-9 c κs = search needs
 
 returns : tie.Need-returns
-returns c = ?
+returns c =
+    chain (c .or-else9 .ensures) (c .before .modulus-rule .ensures)
+    (chain (c .before .before .or-else8 .ensures) (c .before .before .before .odd-rule4 .ensures)
+    (chain (c .before .before .before .before .or-else7 .ensures) (c .before .before .before .before .before .odd-rule3 .ensures)
+    (chain (c .before .before .before .before .before .before .or-else6 .ensures) (c .before .before .before .before .before .before .before .odd-rule2 .ensures)
+    (chain (c .before .before .before .before .before .before .before .before .or-else5 .ensures) (c .before .before .before .before .before .before .before .before .before .odd-rule .ensures)
+    (chain (c .before .before .before .before .before .before .before .before .before .before .or-else4 .ensures) (c .before .before .before .before .before .before .before .before .before .before .before .long-rule4 .ensures)
+    (chain (c .before .before .before .before .before .before .before .before .before .before .before .before .or-else3 .ensures) (c .before .before .before .before .before .before .before .before .before .before .before .before .before .long-rule3 .ensures)
+    (chain (c .before .before .before .before .before .before .before .before .before .before .before .before .before .before .or-else2 .ensures) (c .before .before .before .before .before .before .before .before .before .before .before .before .before .before .before .long-rule2 .ensures)
+    (chain (c .before .before .before .before .before .before .before .before .before .before .before .before .before .before .before .before .or-else .ensures) (c .before .before .before .before .before .before .before .before .before .before .before .before .before .before .before .before .before .long-rule .ensures)
+    (c .before .before .before .before .before .before .before .before .before .before .before .before .before .before .before .before .before .before .term-rules .ensures ∙ ap (firstOr (termRules _ _ _)) (c .before .before .before .before .before .before .before .before .before .before .before .before .before .before .before .before .before .before .before .last-rules .ensures))))))))))
 
 pub divide-rules-spec : {M : Type 1} → statement M
 divide-rules-spec =

@@ -1,4 +1,5 @@
 -- `division::rules::last_rules` meets its contract.
+use Rattle.poly.proofs.Reports.{chain}
 use borrow.Author.Needs.{needs}
 use Rattle.division.proofs.rules.last_rules.Statement.{statement}
 use Rattle.division.proofs.rules.last_rules.Tie as tie
@@ -22,7 +23,7 @@ or-else-requires-2 : tie.Need-or-else-requires-2
 or-else-requires-2 c κs = search needs
 
 returns : tie.Need-returns
-returns c = ?
+returns c = chain (c .or-else2 .ensures) (c .before .divisor-rule .ensures) (chain (c .before .before .or-else .ensures) (c .before .before .before .before .work-rule .ensures) (c .before .before .before .done .ensures))
 
 pub last-rules-spec : {M : Type 1} → statement M
 last-rules-spec =
