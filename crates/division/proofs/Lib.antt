@@ -5,3 +5,5 @@ pub mod Greatest
 pub mod Rows
 pub mod Onward
 pub mod Runs
+pub mod Ends
+pub mod Accepted

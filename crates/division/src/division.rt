@@ -6,7 +6,7 @@ ghost use Rattle.algebra.specs.Residues.{Prime};
 ghost use Rattle.field.specs.Moduli.{limit};
 ghost use Rattle.monomial.specs.Layout.{base};
 ghost use Rattle.poly.specs.Words.{records, polyOf};
-ghost use Rattle.poly.specs.Rules.{inputTerms};
+ghost use Rattle.poly.specs.Rules.{inputTerms, roomTerms};
 ghost use Rattle.poly.specs.Valid.{Valid};
 ghost use Rattle.division.specs.Calls.{divisionJudges, walkBy, divided, afterDivision, divideOf};
 use crate::plan::prepare;
@@ -30,7 +30,7 @@ pub fn divide(p: u64, f: &[u64], g: &[u64], q: &mut [u64], r: &mut [u64], work: 
 
 // The division where none of 1 to 8 is due.
 fn divide_good(p: u64, f: &[u64], g: &[u64], q: &mut [u64], r: &mut [u64], work: &mut [u64]) -> Report
-    requires { ⌜ (Prime p) × (p ≤ limit) × (0 < records (now g)) × (records (now g) ≤ inputTerms) × (records (now q) ≤ inputTerms) × (4 * records (now q) ≤ length (now work)) ⌝ }
+    requires { ⌜ (Prime p) × (p ≤ limit) × (0 < records (now g)) × (records (now g) ≤ inputTerms) × (records (now q) ≤ inputTerms) × (4 * records (now q) ≤ length (now work)) × (records (now r) ≤ roomTerms) ⌝ }
     requires { ⌜ (Valid p (now f)) × (Valid p (now g)) ⌝ }
     ensures { λ t. ⌜ divided t (now (q .exit)) (now (r .exit)) (now (work .exit)) ≡ afterDivision (walkBy p (divisionJudges (polyOf base (now (g .entry))) (records (now (q .entry))) (records (now (r .entry)))) (polyOf base (now (f .entry))) (polyOf base (now (g .entry)))) (now (q .entry)) (now (r .entry)) (now (work .entry)) ⌝ }
 {

@@ -1,0 +1,217 @@
+-- What a walk leaves behind, in the rooms and in the report.
+--
+--   call-starts            over cleared rooms and work a walk may start
+--   same-walk              the walk of a plan is the walk of the call
+--   room-filled            records that are monomials, and zero words behind them, are the words of their polynomial
+--   division-stopped, division-done    a division that a judge stopped, and one that came to its end
+--   test-stopped, test-done            the same of a divide test
+--   all-zero, zero-long, tail-long     of a room that was cleared, from its front or behind its terms
+--   division-starts, division-refused, division-finished    a division from its start to its ends
+--   test-starts, test-refused, test-finished                a divide test
+use Prim.Native.Nat.{ℕ, _+_, _-_, _*_, _/_, _^_, _<_, _≤_}
+use mathlib.Core.Path.{_≡_, refl, sym, _∙_, ap, subst}
+use mathlib.Core.Bool.{Bool, true, false}
+use mathlib.Core.List.{List, [], _∷_, _++_, append-nil}
+use native.Mathlib.Omega.{arith}
+use lib.Dec.{eqb}
+use lib.ListN.{length, take, replicate, length-append, length-take, length-replicate}
+use borrow.Author.Tests.{eq-eqb, ne-eqb}
+use Rattle.algebra.specs.Residues.{pick}
+use Rattle.algebra.specs.Monomials.{Letters, Numbers}
+use Rattle.algebra.specs.Polynomials.{Poly}
+use Rattle.algebra.specs.Walk.{Walked, stopped}
+use Rattle.algebra.proofs.Clauses.{joined}
+use Rattle.monomial.specs.Layout.{base}
+use Rattle.poly.specs.Words.{records, span, polyOf, wordsOf, filled}
+use Rattle.poly.specs.Rules.{inputTerms}
+use Rattle.poly.specs.Reports.{done, refusal}
+use Rattle.poly.specs.declared.report.Report.{Report}
+use Rattle.poly.proofs.Readings.{flat, codedPoly, decodedPoly, flat-coded, flat-span, length-flat, length-span, length-coded, coded-decoded}
+use Rattle.ring.specs.Outcomes.{Outcome, outcome, cleared}
+use Rattle.ring.proofs.Products.{all-cleared}
+use Rattle.division.specs.Calls.{divisionJudges, testJudges, walkBy, Divided, divided, afterDivision, afterTest}
+use Rattle.division.specs.Walking.{judgesBy, Ready, whole, Walking, Ran}
+use Rattle.division.specs.declared.plan.Plan.{Plan}
+use Rattle.division.specs.declared.steps.State.{State}
+use Rattle.division.proofs.Seen.{Monomial}
+use Rattle.division.proofs.Runs.{walk-starts}
+
+pub call-starts : (p : ℕ) (f g : List ℕ) (plan : Plan) → Ready p f g plan → (q r w q′ r′ w′ : List ℕ) → q′ ≡ cleared q → r′ ≡ cleared r → w′ ≡ cleared w → plan .quotients ≡ records q′ → plan .remainders ≡ records r′ → records q ≤ inputTerms → 4 * records q ≤ length w → Walking p f g plan q′ r′ w′ 0 0 0
+call-starts p f g plan R q r w q′ r′ w′ eq er ew room other few long =
+    let same : records (cleared q) ≡ records q = ap (λ (x : ℕ). x / 2) (length-replicate (length q) 0) in
+    subst (λ (x : List ℕ). Walking p f g plan x r′ w′ 0 0 0) (sym eq)
+    (subst (λ (x : List ℕ). Walking p f g plan (cleared q) x w′ 0 0 0) (sym er)
+    (subst (λ (x : List ℕ). Walking p f g plan (cleared q) (cleared r) x 0 0 0) (sym ew)
+    (walk-starts p f g plan R (length q) (length r) (length w) (room ∙ ap records eq) (other ∙ ap records er) (omega (arith, same)) (omega (arith, same)))))
+
+pub same-walk : (p : ℕ) (f g : List ℕ) (plan : Plan) (test : Bool) (n m : ℕ) → plan .test ≡ test → plan .quotients ≡ n → plan .remainders ≡ m → whole p f g plan ≡ walkBy p (judgesBy test (polyOf base f) (polyOf base g) n m) (polyOf base f) (polyOf base g)
+same-walk p f g plan test n m et en em =
+    λ d. walkBy p (judgesBy (et d) (polyOf base f) (polyOf base g) (en d) (em d)) (polyOf base f) (polyOf base g)
+
+module _ (s : List ℕ) (n : ℕ) (inside : n ≤ records s) (a : Monomial (span s 0 n)) where
+  abbrev terms : Poly (Letters 4)
+  terms = decodedPoly base (span s 0 n)
+
+  pub terms-count : length terms ≡ n
+  terms-count = sym (length-coded base terms) ∙ ap length (coded-decoded base (span s 0 n) a) ∙ length-span s 0 n
+
+  pub room-filled : (k : ℕ) → length s ≡ k → take (2 * n) s ++ replicate (length s - 2 * n) 0 ≡ filled k (wordsOf base terms)
+  room-filled k e =
+      let within : 2 * (0 + n) ≤ length s = omega arith in
+      let words : flat (span s 0 n) ≡ wordsOf base terms = ap flat (sym (coded-decoded base (span s 0 n) a)) ∙ flat-coded base terms in
+      let long : length (wordsOf base terms) ≡ 2 * n = ap length (sym words) ∙ length-flat (span s 0 n) ∙ ap (λ (x : ℕ). 2 * x) (length-span s 0 n) in
+      let zeros : length s - 2 * n ≡ k - length (wordsOf base terms) = omega arith in
+      λ d. (sym (flat-span s 0 n within) ∙ words) d ++ replicate (zeros d) 0
+
+module _ (w : Walked (Letters 4)) (q r work q′ r′ work′ : List ℕ) (t : Report) (ew : work′ ≡ cleared work) where
+  abbrev finished : Divided
+  finished = divided (done (length (w .quotient)) (length (w .remainder))) (filled (length q) (wordsOf base (w .quotient))) (filled (length r) (wordsOf base (w .remainder))) (cleared work)
+
+  abbrev refused : Divided
+  refused = divided (refusal (w .reply) 0 0) (cleared q) (cleared r) (cleared work)
+
+  pub division-stopped : (reply : ℕ) → w .reply ≡ reply → (reply ≡ 0 → ⊥) → q′ ≡ cleared q → r′ ≡ cleared r → t ≡ refusal reply 0 0 → divided t q′ r′ work′ ≡ afterDivision w q r work
+  division-stopped reply e n eq er et =
+      (λ d. divided ((et ∙ ap (λ x. refusal x 0 0) (sym e)) d) (eq d) (er d) (ew d))
+      ∙ ap (λ b. pick b finished refused) (sym (ne-eqb (w .reply) 0 (λ z. n (sym e ∙ z))))
+
+  pub division-done : (s u : List ℕ) (n j : ℕ) → length s ≡ length q → length u ≡ length r → n ≤ records q → j ≤ records r → Monomial (span s 0 n) → Monomial (span u 0 j) → w ≡ joined (decodedPoly base (span s 0 n)) (decodedPoly base (span u 0 j)) (stopped 0 []) → q′ ≡ take (2 * n) s ++ replicate (length s - 2 * n) 0 → r′ ≡ take (2 * j) u ++ replicate (length u - 2 * j) 0 → t ≡ done n j → divided t q′ r′ work′ ≡ afterDivision w q r work
+  division-done s u n j ls lu hn hj ms mu e eq er et =
+      let inside : n ≤ records s = omega (arith, ap (λ (x : ℕ). x / 2) ls) in
+      let within : j ≤ records u = omega (arith, ap (λ (x : ℕ). x / 2) lu) in
+      let quotient : decodedPoly base (span s 0 n) ≡ w .quotient = sym (append-nil (decodedPoly base (span s 0 n))) ∙ ap (λ (x : Walked (Letters 4)). x .quotient) (sym e) in
+      let remainder : decodedPoly base (span u 0 j) ≡ w .remainder = sym (append-nil (decodedPoly base (span u 0 j))) ∙ ap (λ (x : Walked (Letters 4)). x .remainder) (sym e) in
+      let first : n ≡ length (w .quotient) = sym (terms-count s n inside ms) ∙ ap length quotient in
+      let second : j ≡ length (w .remainder) = sym (terms-count u j within mu) ∙ ap length remainder in
+      (λ d. divided ((et ∙ (λ i. done (first i) (second i))) d) ((eq ∙ room-filled s n inside ms (length q) ls ∙ ap (λ (x : Poly (Letters 4)). filled (length q) (wordsOf base x)) quotient) d) ((er ∙ room-filled u j within mu (length r) lu ∙ ap (λ (x : Poly (Letters 4)). filled (length r) (wordsOf base x)) remainder) d) (ew d))
+      ∙ ap (λ b. pick b finished refused) (sym (eq-eqb (w .reply) 0 (ap (λ (x : Walked (Letters 4)). x .reply) e)))
+
+module _ (w : Walked (Letters 4)) (q work q′ work′ : List ℕ) (t : Report) (ew : work′ ≡ cleared work) where
+  abbrev yes-told : Outcome
+  yes-told = outcome (done (length (w .quotient)) 0) (filled (length q) (wordsOf base (w .quotient))) (cleared work)
+
+  abbrev no-told : Outcome
+  no-told = outcome (refusal (w .reply) 0 0) (cleared q) (cleared work)
+
+  pub test-stopped : (reply : ℕ) → w .reply ≡ reply → (reply ≡ 0 → ⊥) → q′ ≡ cleared q → t ≡ refusal reply 0 0 → outcome t q′ work′ ≡ afterTest w q work
+  test-stopped reply e n eq et =
+      (λ d. outcome ((et ∙ ap (λ x. refusal x 0 0) (sym e)) d) (eq d) (ew d))
+      ∙ ap (λ b. pick b yes-told no-told) (sym (ne-eqb (w .reply) 0 (λ z. n (sym e ∙ z))))
+
+  pub test-done : (s : List ℕ) (n : ℕ) → length s ≡ length q → n ≤ records q → Monomial (span s 0 n) → (remainder : Poly (Letters 4)) → w ≡ joined (decodedPoly base (span s 0 n)) remainder (stopped 0 []) → q′ ≡ take (2 * n) s ++ replicate (length s - 2 * n) 0 → t ≡ done n 0 → outcome t q′ work′ ≡ afterTest w q work
+  test-done s n ls hn ms remainder e eq et =
+      let inside : n ≤ records s = omega (arith, ap (λ (x : ℕ). x / 2) ls) in
+      let quotient : decodedPoly base (span s 0 n) ≡ w .quotient = sym (append-nil (decodedPoly base (span s 0 n))) ∙ ap (λ (x : Walked (Letters 4)). x .quotient) (sym e) in
+      let first : n ≡ length (w .quotient) = sym (terms-count s n inside ms) ∙ ap length quotient in
+      (λ d. outcome ((et ∙ (λ i. done (first i) 0)) d) ((eq ∙ room-filled s n inside ms (length q) ls ∙ ap (λ (x : Poly (Letters 4)). filled (length q) (wordsOf base x)) quotient) d) (ew d))
+      ∙ ap (λ b. pick b yes-told no-told) (sym (eq-eqb (w .reply) 0 (ap (λ (x : Walked (Letters 4)). x .reply) e)))
+
+-- Rooms that were cleared, and their lengths
+
+module _ (s s₁ s₂ : List ℕ) (e : length s₁ ≡ length s) where
+  pub all-zero : s₂ ≡ take 0 s₁ ++ replicate (length s₁ - 0) 0 → s₂ ≡ cleared s
+  all-zero c = all-cleared s s₁ s₂ e c
+
+  pub zero-long : s₂ ≡ take 0 s₁ ++ replicate (length s₁ - 0) 0 → length s₂ ≡ length s
+  zero-long c = ap length (all-zero c) ∙ length-replicate (length s) 0
+
+  pub tail-long : (n : ℕ) → n ≤ records s → s₂ ≡ take (2 * n) s₁ ++ replicate (length s₁ - 2 * n) 0 → length s₂ ≡ length s
+  tail-long n h c =
+      omega (
+        arith,
+        ap length c,
+        length-append (take (2 * n) s₁) (replicate (length s₁ - 2 * n) 0),
+        length-take (2 * n) s₁,
+        length-replicate {A = ℕ} (length s₁ - 2 * n) 0,
+      )
+
+-- A call from its start to its end: the rooms and the work are cleared, the walk runs, and the work is cleared again.
+
+module _ (p : ℕ) (f g : List ℕ) (plan : Plan) (q r w q₁ r₁ w₁ : List ℕ) (cq : q₁ ≡ take 0 q ++ replicate (length q - 0) 0) (cr : r₁ ≡ take 0 r ++ replicate (length r - 0) 0) (cw : w₁ ≡ take 0 w ++ replicate (length w - 0) 0) (en : plan .quotients ≡ records q₁) (em : plan .remainders ≡ records r₁) where
+  pub division-starts : Ready p f g plan → records q ≤ inputTerms → 4 * records q ≤ length w → Walking p f g plan q₁ r₁ w₁ 0 0 0
+  division-starts R few long =
+      call-starts p f g plan R q r w q₁ r₁ w₁ (all-zero q q q₁ refl cq) (all-zero r r r₁ refl cr) (all-zero w w w₁ refl cw) en em few long
+
+  module _ (et : plan .test ≡ false) (q₂ r₂ w₂ : List ℕ) (s : State) (N : Ran p f g plan q₁ r₁ w₁ q₂ r₂ w₂ s) where
+    pub quotient-long : length q₂ ≡ length q
+    quotient-long = N .quotient-long ∙ zero-long q q q₁ refl cq
+
+    pub remainder-long : length r₂ ≡ length r
+    remainder-long = N .remainder-long ∙ zero-long r r r₁ refl cr
+
+    pub work-long : length w₂ ≡ length w
+    work-long = N .work-long ∙ zero-long w w w₁ refl cw
+
+    abbrev walked : Walked (Letters 4)
+    walked = walkBy p (divisionJudges (polyOf base g) (records q) (records r)) (polyOf base f) (polyOf base g)
+
+    same : whole p f g plan ≡ walked
+    same =
+        same-walk p f g plan false (records q) (records r) et (en ∙ ap (λ (x : ℕ). x / 2) (zero-long q q q₁ refl cq)) (em ∙ ap (λ (x : ℕ). x / 2) (zero-long r r r₁ refl cr))
+
+    pub counts-within : s .reply ≡ 0 → (s .quotient ≤ records q) × (s .remainder ≤ records r)
+    counts-within z = (
+      omega (arith, N .quotient-within z, ap (λ (x : ℕ). x / 2) (zero-long q q q₁ refl cq)),
+      omega (arith, N .remainder-within z, ap (λ (x : ℕ). x / 2) (zero-long r r r₁ refl cr)),
+    )
+
+    module _ (q₃ r₃ w₃ : List ℕ) (t : Report) (dw : w₃ ≡ take 0 w₂ ++ replicate (length w₂ - 0) 0) where
+      pub division-refused : (s .reply ≡ 0 → ⊥) → q₃ ≡ take 0 q₂ ++ replicate (length q₂ - 0) 0 → r₃ ≡ take 0 r₂ ++ replicate (length r₂ - 0) 0 → t ≡ refusal (s .reply) 0 0 → divided t q₃ r₃ w₃ ≡ afterDivision walked q r w
+      division-refused n dq dr e =
+          division-stopped walked q r w q₃ r₃ w₃ t (all-zero w w₂ w₃ work-long dw) (s .reply) (ap (λ (x : Walked (Letters 4)). x .reply) (sym same) ∙ N .replies) n
+          (all-zero q q₂ q₃ quotient-long dq)
+          (all-zero r r₂ r₃ remainder-long dr)
+          e
+
+      pub division-finished : s .reply ≡ 0 → q₃ ≡ take (2 * s .quotient) q₂ ++ replicate (length q₂ - 2 * s .quotient) 0 → r₃ ≡ take (2 * s .remainder) r₂ ++ replicate (length r₂ - 2 * s .remainder) 0 → t ≡ done (s .quotient) (s .remainder) → divided t q₃ r₃ w₃ ≡ afterDivision walked q r w
+      division-finished z dq dr e =
+          division-done walked q r w q₃ r₃ w₃ t (all-zero w w₂ w₃ work-long dw) q₂ r₂ (s .quotient) (s .remainder) quotient-long remainder-long
+          (counts-within z .0)
+          (counts-within z .1)
+          (N .quotient-monomials z)
+          (N .remainder-monomials z)
+          (sym same ∙ N .ends z)
+          dq
+          dr
+          e
+
+-- The divide test has no room for a remainder, and never writes one.
+
+module _ (p : ℕ) (f g : List ℕ) (plan : Plan) (q w q₁ w₁ : List ℕ) (cq : q₁ ≡ take 0 q ++ replicate (length q - 0) 0) (cw : w₁ ≡ take 0 w ++ replicate (length w - 0) 0) (en : plan .quotients ≡ records q₁) where
+  pub test-starts : Ready p f g plan → plan .remainders ≡ 0 → records q ≤ inputTerms → 4 * records q ≤ length w → Walking p f g plan q₁ (0 ∷ []) w₁ 0 0 0
+  test-starts R none few long =
+      call-starts p f g plan R q (0 ∷ []) w q₁ (0 ∷ []) w₁ (all-zero q q q₁ refl cq) refl (all-zero w w w₁ refl cw) en none few long
+
+  module _ (et : plan .test ≡ true) (r q₂ r₂ w₂ : List ℕ) (s : State) (N : Ran p f g plan q₁ r w₁ q₂ r₂ w₂ s) where
+    pub test-quotient-long : length q₂ ≡ length q
+    test-quotient-long = N .quotient-long ∙ zero-long q q q₁ refl cq
+
+    pub test-work-long : length w₂ ≡ length w
+    test-work-long = N .work-long ∙ zero-long w w w₁ refl cw
+
+    abbrev tested : Walked (Letters 4)
+    tested = walkBy p (testJudges (polyOf base f) (polyOf base g) (records q)) (polyOf base f) (polyOf base g)
+
+    same-test : whole p f g plan ≡ tested
+    same-test =
+        same-walk p f g plan true (records q) (plan .remainders) et (en ∙ ap (λ (x : ℕ). x / 2) (zero-long q q q₁ refl cq)) refl
+
+    pub test-within : s .reply ≡ 0 → s .quotient ≤ records q
+    test-within z = omega (arith, N .quotient-within z, ap (λ (x : ℕ). x / 2) (zero-long q q q₁ refl cq))
+
+    module _ (q₃ w₃ : List ℕ) (t : Report) (dw : w₃ ≡ take 0 w₂ ++ replicate (length w₂ - 0) 0) where
+      pub test-refused : (s .reply ≡ 0 → ⊥) → q₃ ≡ take 0 q₂ ++ replicate (length q₂ - 0) 0 → t ≡ refusal (s .reply) 0 0 → outcome t q₃ w₃ ≡ afterTest tested q w
+      test-refused n dq e =
+          test-stopped tested q w q₃ w₃ t (all-zero w w₂ w₃ test-work-long dw) (s .reply) (ap (λ (x : Walked (Letters 4)). x .reply) (sym same-test) ∙ N .replies) n
+          (all-zero q q₂ q₃ test-quotient-long dq)
+          e
+
+      pub test-finished : s .reply ≡ 0 → q₃ ≡ take (2 * s .quotient) q₂ ++ replicate (length q₂ - 2 * s .quotient) 0 → t ≡ done (s .quotient) 0 → outcome t q₃ w₃ ≡ afterTest tested q w
+      test-finished z dq e =
+          test-done tested q w q₃ w₃ t (all-zero w w₂ w₃ test-work-long dw) q₂ (s .quotient) test-quotient-long
+          (test-within z)
+          (N .quotient-monomials z)
+          (decodedPoly base (span r₂ 0 (s .remainder)))
+          (sym same-test ∙ N .ends z)
+          dq
+          e
