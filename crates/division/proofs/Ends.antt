@@ -8,16 +8,15 @@
 --   all-zero, zero-long, tail-long     of a room that was cleared, from its front or behind its terms
 --   division-starts, division-refused, division-finished    a division from its start to its ends
 --   test-starts, test-refused, test-finished                a divide test
-use Prim.Native.Nat.{ℕ, _+_, _-_, _*_, _/_, _^_, _<_, _≤_}
+use Prim.Native.Nat.{ℕ, _+_, _-_, _*_, _/_, _≤_}
 use mathlib.Core.Path.{_≡_, refl, sym, _∙_, ap, subst}
 use mathlib.Core.Bool.{Bool, true, false}
 use mathlib.Core.List.{List, [], _∷_, _++_, append-nil}
 use native.Mathlib.Omega.{arith}
-use lib.Dec.{eqb}
 use lib.ListN.{length, take, replicate, length-append, length-take, length-replicate}
 use borrow.Author.Tests.{eq-eqb, ne-eqb}
 use Rattle.algebra.specs.Residues.{pick}
-use Rattle.algebra.specs.Monomials.{Letters, Numbers}
+use Rattle.algebra.specs.Monomials.{Letters}
 use Rattle.algebra.specs.Polynomials.{Poly}
 use Rattle.algebra.specs.Walk.{Walked, stopped}
 use Rattle.algebra.proofs.Clauses.{joined}
@@ -26,7 +25,7 @@ use Rattle.poly.specs.Words.{records, span, polyOf, wordsOf, filled}
 use Rattle.poly.specs.Rules.{inputTerms}
 use Rattle.poly.specs.Reports.{done, refusal}
 use Rattle.poly.specs.declared.report.Report.{Report}
-use Rattle.poly.proofs.Readings.{flat, codedPoly, decodedPoly, flat-coded, flat-span, length-flat, length-span, length-coded, coded-decoded}
+use Rattle.poly.proofs.Readings.{flat, decodedPoly, flat-coded, flat-span, length-flat, length-span, length-coded, coded-decoded}
 use Rattle.ring.specs.Outcomes.{Outcome, outcome, cleared}
 use Rattle.ring.proofs.Products.{all-cleared}
 use Rattle.division.specs.Calls.{divisionJudges, testJudges, walkBy, Divided, divided, afterDivision, afterTest}

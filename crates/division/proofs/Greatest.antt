@@ -8,14 +8,10 @@
 --   headed-first, headed-other    the monomial is the dividend's next, or only the tree's
 use Prim.Native.Nat.{ℕ, zero, suc, _+_, _-_, _*_, _%_, _<_, _≤_, max}
 use mathlib.Core.Path.{_≡_, refl, sym, _∙_, ap, subst}
-use mathlib.Core.Bool.{Bool, true, false}
-use mathlib.Core.List.{List, [], _∷_, _++_}
-use mathlib.Core.Logic.{_⊎_, inl, inr}
+use mathlib.Core.List.{List, _∷_, _++_}
 use native.Mathlib.Nat.{pos-of-ne-zero, mod-lt, mod-eq-of-lt, zero-add, le-max-left, le-max-right, max-le, max-eq-left, max-eq-right}
 use native.Mathlib.Decide.{ℕ-discrete, decLt}
 use native.Mathlib.Omega.{arith}
-use lib.Dec.{ltb}
-use lib.ListN.{length}
 use borrow.Author.Tests.{lt-ltb, le-ltb}
 use Rattle.algebra.specs.Residues.{Same, pick}
 use Rattle.algebra.specs.Monomials.{Numbers}

@@ -5,11 +5,11 @@
 --   divisor-monomial       the word of the divisor's maxima is a monomial
 --   reply-word             what a judge says of a quotient term, by its word
 --   remainder-reply, remainder-room      the same of a remainder term
---   passes-room, passes-fits      where a quotient term passes there is room, and its products with the divisor's terms fit
+--   by-passes, passes-room, passes-fits      where a quotient term passes there is room, and its products with the divisor's terms fit
 use Prim.Native.Nat.{ℕ, zero, suc, _+_, _≤_, _<_}
 use mathlib.Core.Path.{_≡_, refl, sym, _∙_, ap}
 use mathlib.Core.Bool.{Bool, true, false}
-use mathlib.Core.List.{List, [], _∷_}
+use mathlib.Core.List.{List}
 use native.Mathlib.Decide.{decLt}
 use native.Mathlib.Omega.{arith}
 use lib.Dec.{ltb}
@@ -23,9 +23,9 @@ use Rattle.algebra.proofs.NormalForm.{all-map}
 use Rattle.field.specs.Answers.{value, noValue}
 use Rattle.field.specs.declared.Value.{Value}
 use Rattle.monomial.specs.Answers.{packOf}
-use Rattle.monomial.specs.Layout.{base, isMonomial, fits, divides}
+use Rattle.monomial.specs.Layout.{base, isMonomial, divides}
 use Rattle.monomial.proofs.Fields.{fits-letters, exponent-none, divides-fits}
-use Rattle.monomial.proofs.Laws.{read, write, fit, monomial-fits, word-monomial, word-read, sum-monomial, sum-divides}
+use Rattle.monomial.proofs.Laws.{read, write, fit, word-monomial, word-read, sum-monomial, sum-divides}
 use Rattle.poly.specs.Words.{records, wordAt, polyOf}
 use Rattle.poly.specs.Valid.{Valid}
 use Rattle.poly.proofs.Readings.{valid-fits, weight-within}
@@ -81,7 +81,7 @@ module _ (f g : Poly (Letters 4)) (q r : ℕ) where
       ∙ sym (sum-monomial base word d h (word-monomial base (maxima g) fg)))
       ∙ (λ x. quotientReply false (sym eg x) dividend q word i)
 
-  by-passes : (b : Bool) (a : Letters 4 .Mon) (i c : ℕ) → fit base (maxima f) ≡ true → judgesBy b f g q r .onQuotient i (term a c) ≡ 0 → (fit base (Letters 4 .mul a (maxima g)) ≡ true) × (i < q)
+  pub by-passes : (b : Bool) (a : Letters 4 .Mon) (i c : ℕ) → fit base (maxima f) ≡ true → judgesBy b f g q r .onQuotient i (term a c) ≡ 0 → (fit base (Letters 4 .mul a (maxima g)) ≡ true) × (i < q)
   by-passes true a i c ff e =
       let z = pick-zero (divides 4 (Letters 4 .mul a (maxima g)) (maxima f)) (unlessFull i q 10) 12 (omega arith) e in
       (divides-fits 16 4 (Letters 4 .mul a (maxima g)) (maxima f) (z .0) ff, full-zero i q 10 (omega arith) (z .1))

@@ -7,3 +7,5 @@ pub mod Onward
 pub mod Runs
 pub mod Ends
 pub mod Accepted
+pub mod Finishes
+pub mod Determined

@@ -7,7 +7,7 @@
 --   step-stops-remainder, step-moves       the remainder term is refused; it is written
 use Prim.Native.Nat.{ℕ, zero, suc, _+_, _-_, _*_, _/_, _%_, _^_, _<_, _≤_, max}
 use mathlib.Core.Path.{_≡_, refl, sym, _∙_, ap, subst}
-use mathlib.Core.Bool.{Bool, true, false}
+use mathlib.Core.Bool.{true, false}
 use mathlib.Core.List.{List, [], _∷_, _++_}
 use native.Mathlib.Nat.{mod-lt, pos-of-ne-zero, le-max-left, le-max-right}
 use native.Mathlib.Numerals.{add-one}
@@ -18,7 +18,7 @@ use lib.ListN.{length}
 use Rattle.algebra.specs.Residues.{inverse}
 use Rattle.algebra.specs.Monomials.{Letters, Numbers}
 use Rattle.algebra.specs.Orders.{Lex, Rising}
-use Rattle.algebra.specs.Polynomials.{Term, term, Poly, times, negated, sorted, All, Below}
+use Rattle.algebra.specs.Polynomials.{Term, term, Poly, times, negated, All, Below}
 use Rattle.algebra.specs.Walk.{Walked, toQuotient, toRemainder, remains}
 use Rattle.algebra.proofs.Tests.{never}
 use Rattle.algebra.proofs.Scan.{first-within}
@@ -27,13 +27,13 @@ use Rattle.algebra.proofs.Sorted.{Alike, alike-all, sorted-head, sorted-same}
 use Rattle.algebra.proofs.Clauses.{joined, joined-quotient, joined-remainder, quotient-stopped, remainder-stopped, walk-skips, walk-quotient, walk-remainder}
 use Rattle.field.specs.Moduli.{limit}
 use Rattle.monomial.specs.Layout.{base, isMonomial, dividesOf}
-use Rattle.monomial.proofs.Laws.{read, write, monomial-fits, monomial-word, divides-iff, word-divides, sum-exponents}
+use Rattle.monomial.proofs.Laws.{read, monomial-fits, monomial-word, divides-iff, word-divides, sum-exponents}
 use Rattle.poly.specs.Words.{records, wordAt, numberAt, termAt, terms, span, polyOf}
 use Rattle.poly.proofs.Readings.{decodedPoly, decoded-append, terms-decoded, span-stored, span-all}
-use Rattle.ring.specs.Tree.{left, Live, Sides}
+use Rattle.ring.specs.Tree.{Live, Sides}
 use Rattle.ring.proofs.Records.{put, put-length, put-word, put-number, put-other}
 use Rattle.ring.proofs.Bursts.{word-small}
-use Rattle.division.specs.Walking.{keyAt, rest, seen, judgesBy, judgesOf, quotientReply, remainderReply, Ready, whole, walkOn, Walking, Headed, RowPut, Stepped}
+use Rattle.division.specs.Walking.{keyAt, rest, seen, judgesOf, quotientReply, remainderReply, Ready, whole, walkOn, Walking, Headed, RowPut, Stepped}
 use Rattle.division.specs.declared.plan.Plan.{Plan}
 use Rattle.division.specs.declared.steps.State.{State}
 use Rattle.division.proofs.Judging.{reply-word, passes-room, passes-fits, remainder-reply, remainder-room}

@@ -4,9 +4,9 @@
 --   row-more               the row waits for its products from the divisor's second term on
 --   row-alone              a divisor of one term leaves nothing to wait for
 --   rows-alike             what remains, less the new products, is what remains with the new row
-use Prim.Native.Nat.{ℕ, suc, _+_, _-_, _*_, _/_, _^_, _<_, _≤_}
+use Prim.Native.Nat.{ℕ, suc, _+_, _-_, _*_, _/_, _^_, _<_}
 use mathlib.Core.Path.{_≡_, refl, sym, _∙_, ap}
-use mathlib.Core.List.{List, [], _∷_, _++_, append-nil}
+use mathlib.Core.List.{List, [], _++_, append-nil}
 use native.Mathlib.Omega.{arith}
 use lib.ListN.{length}
 use Rattle.algebra.specs.Monomials.{Numbers}
@@ -15,7 +15,7 @@ use Rattle.algebra.proofs.Residues.{same-eq}
 use Rattle.algebra.proofs.Totals.{total-append, equal-by}
 use Rattle.algebra.proofs.Ring.{total-negated}
 use Rattle.algebra.proofs.Sorted.{Alike, count-append, count-negated}
-use Rattle.poly.specs.Words.{records, wordAt, numberAt, span}
+use Rattle.poly.specs.Words.{records, wordAt, span}
 use Rattle.ring.specs.Tree.{left, Live, Added}
 use Rattle.ring.proofs.Records.{put, put-length, put-word, put-number}
 use Rattle.ring.proofs.Adding.{row-written}

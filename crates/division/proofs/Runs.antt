@@ -2,13 +2,14 @@
 --
 --   steps-enough           there are more steps than words
 --   zero-words             a cleared array has only zero words
+--   divisor-terms          a divisor is its first term and the later ones
+--   rest-none              nothing remains where no key does
 --   walk-starts            over cleared arrays the walk starts with the whole dividend
 --   Running, runs-on, runs-ended, runs-stopped     the loop: what holds before each step, and its two ways out
-use Prim.Native.Nat.{ℕ, zero, suc, _+_, _-_, _*_, _/_, _^_, _<_, _≤_, max}
-use mathlib.Core.Path.{_≡_, refl, sym, _∙_, ap, subst}
-use mathlib.Core.Bool.{true}
+use Prim.Native.Nat.{ℕ, suc, _+_, _-_, _*_, _/_, _^_, _<_, _≤_, max}
+use mathlib.Core.Path.{_≡_, sym, _∙_, ap, subst}
 use mathlib.Core.List.{List, [], _∷_, _++_, append-nil}
-use mathlib.Core.Logic.{inl, inr}
+use mathlib.Core.Logic.{inl}
 use native.Mathlib.Nat.{le-max-left, le-max-right, max-le, sub-zero}
 use native.Mathlib.Decide.{decLt}
 use native.Mathlib.Omega.{arith}
@@ -16,15 +17,14 @@ use lib.ListN.{length, getD, replicate, getD-replicate, length-replicate, List·
 use Rattle.algebra.specs.Monomials.{Letters, Numbers}
 use Rattle.algebra.specs.Orders.{Lex, Rising}
 use Rattle.algebra.specs.Polynomials.{Poly, negated, sorted, Reduced}
-use Rattle.algebra.specs.Walk.{Walked, stopped, walk}
+use Rattle.algebra.specs.Walk.{Walked, stopped}
 use Rattle.algebra.proofs.NormalForm.{Small}
 use Rattle.algebra.proofs.Sorted.{sorted-self}
 use Rattle.algebra.proofs.Clauses.{joined, walk-ends}
-use Rattle.monomial.specs.Layout.{base, isMonomial}
-use Rattle.poly.specs.Words.{records, wordAt, numberAt, termAt, terms, span, polyOf}
-use Rattle.poly.specs.Valid.{Valid}
+use Rattle.monomial.specs.Layout.{base}
+use Rattle.poly.specs.Words.{records, wordAt, termAt, terms, span, polyOf}
 use Rattle.poly.proofs.Readings.{decodedPoly, poly-decoded, span-monomials, span-normal}
-use Rattle.ring.specs.Tree.{Tree, left, Live, Sides}
+use Rattle.ring.specs.Tree.{Live}
 use Rattle.ring.proofs.Planting.{left-none}
 use Rattle.ring.proofs.Bursts.{words-small}
 use Rattle.division.specs.Calls.{steps, walkBy}
@@ -32,7 +32,7 @@ use Rattle.division.specs.Walking.{keyAt, rest, seen, judgesOf, Ready, w
 use Rattle.division.specs.declared.plan.Plan.{Plan}
 use Rattle.division.specs.declared.steps.State.{State}
 use Rattle.division.proofs.Seen.{Monomial}
-use Rattle.division.proofs.Greatest.{key-here, key-beyond, key-within}
+use Rattle.division.proofs.Greatest.{key-here, key-beyond}
 
 pub steps-enough : 2 ^ 64 ≤ steps
 unfolding steps
@@ -40,6 +40,11 @@ steps-enough = omega arith
 
 pub zero-words : (n i : ℕ) → getD {A = ℕ} (replicate n 0) i 0 ≡ 0
 zero-words n i = elim (decLt i n) [ yes h ↦ getD-replicate n i 0 0 h | no h ↦ List·getD-eq-default (replicate n 0) 0 (omega (arith, length-replicate {A = ℕ} n 0)) ]
+
+-- a divisor is its first term and the later ones
+pub divisor-terms : (g : List ℕ) → 0 < records g → polyOf base g ≡ termAt base g 0 ∷ terms base g 1 (records g - 1)
+unfolding polyOf
+divisor-terms g h = let more : records g ≡ suc (records g - 1) = omega arith in ap (terms base g 0) more
 
 -- what remains where no key does
 pub rest-none : (p : ℕ) (f g q w : List ℕ) (i : ℕ) → Live q g w → max (keyAt f i) (wordAt w 1) ≡ 0 → rest p f g q w i ≡ []
@@ -75,16 +80,12 @@ module _ (p : ℕ) (f g : List ℕ) (plan : Plan) (R : Ready p f g plan) (n m k 
   start =
       (λ d. span f 0 (sub-zero (records f) d) ++ negated p (left-none q g w live (zero-words k 2) d)) ∙ append-nil (span f 0 (records f))
 
-  -- the dividend's terms are what remains, and the divisor is its first term and the later ones
+  -- the dividend's terms are what remains
   dividend : polyOf base f ≡ seen p (rest p f g q w 0)
   dividend =
       let n = span-normal p f (R .dividend) in
       poly-decoded base f
       ∙ ap (decodedPoly base) (sym (sorted-self Rising (R .positive) (span f 0 (records f)) (n .falling) (reduced-small p (span f 0 (records f)) (n .reduced))) ∙ ap (sorted Rising p) (sym start))
-
-  divisor : polyOf base g ≡ termAt base g 0 ∷ terms base g 1 (records g - 1)
-  unfolding polyOf
-  divisor = let more : records g ≡ suc (records g - 1) = omega (arith, R .some) in ap (terms base g 0) more
 
   first-key : keyAt f 0 ≤ 2 ^ 64
   first-key =
@@ -117,7 +118,7 @@ module _ (p : ℕ) (f g : List ℕ) (plan : Plan) (R : Ready p f g plan) (n m k 
         remainder-monomials = tt;
         fuel = steps;
         enough = max-le (omega (arith, first-key, steps-enough)) (omega (arith, zero-words k 2));
-        walked = λ d. walkBy p (judgesOf f g plan) (dividend d) (divisor d);
+        walked = λ d. walkBy p (judgesOf f g plan) (dividend d) (divisor-terms g (R .some) d);
       }
 
 -- the loop, before each step

@@ -9,11 +9,11 @@ use mathlib.Core.Bool.{true}
 use mathlib.Core.List.{[], _∷_, _++_}
 use Rattle.algebra.specs.Monomials.{Monomials, Letters, Numbers}
 use Rattle.algebra.specs.Orders.{Lex, Rising}
-use Rattle.algebra.specs.Polynomials.{Term, term, Poly, times, negated, sorted, All}
+use Rattle.algebra.specs.Polynomials.{term, Poly, times, negated, sorted, All}
 use Rattle.algebra.specs.Walk.{remains}
 use Rattle.algebra.proofs.NormalForm.{sorted-all, all-append}
 use Rattle.algebra.proofs.Sorted.{count-negated, count-all, all-count, alike-refl, alike-append, sorted-alike, sorted-same}
-use Rattle.algebra.proofs.Coding.{named, named-sorted}
+use Rattle.algebra.proofs.Coding.{named-sorted}
 use Rattle.monomial.specs.Layout.{base, isMonomial}
 use Rattle.monomial.proofs.Laws.{read, fit, sum-exponents}
 use Rattle.poly.proofs.Readings.{codedPoly, decodedPoly, decoded-append, decoded-coded, coded-decoded, decoded-fits}

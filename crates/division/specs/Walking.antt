@@ -13,11 +13,10 @@
 --   Headed               the greatest monomial was taken out of what remains
 --   RowPut               a quotient term was written, and its products wait in the tree
 --   Stepped, Ran         what a step and the whole loop promise
-use Prim.Native.Nat.{ℕ, suc, _+_, _-_, _*_, _^_, _<_, _≤_, max}
+use Prim.Native.Nat.{ℕ, _+_, _-_, _*_, _^_, _<_, _≤_, max}
 use mathlib.Core.Path.{_≡_}
 use mathlib.Core.Bool.{Bool, true, false}
 use mathlib.Core.List.{List, [], _∷_, _++_}
-use mathlib.Core.Logic.{_⊎_}
 use lib.Dec.{ltb}
 use lib.ListN.{length, set}
 use Rattle.algebra.specs.Residues.{Prime, inverse, pick}

@@ -18,7 +18,14 @@ use poly::report::refusal;
 use ring::room::clear;
 
 // The quotient and the remainder of f by g in the rooms q and r, with four work words for each term of the quotient room.
-pub fn divide(p: u64, f: &[u64], g: &[u64], q: &mut [u64], r: &mut [u64], work: &mut [u64]) -> Report
+pub fn divide(
+    p: u64,
+    f: &[u64],
+    g: &[u64],
+    q: &mut [u64],
+    r: &mut [u64],
+    work: &mut [u64],
+) -> Report
     ensures { λ t. ⌜ divided t (now (q .exit)) (now (r .exit)) (now (work .exit)) ≡ divideOf p (now (f .entry)) (now (g .entry)) (now (q .entry)) (now (r .entry)) (now (work .entry)) ⌝ }
 {
     let due = divide_rules(p, f, g, q, r, work);
@@ -29,7 +36,14 @@ pub fn divide(p: u64, f: &[u64], g: &[u64], q: &mut [u64], r: &mut [u64], work: 
 }
 
 // The division where none of 1 to 8 is due.
-fn divide_good(p: u64, f: &[u64], g: &[u64], q: &mut [u64], r: &mut [u64], work: &mut [u64]) -> Report
+fn divide_good(
+    p: u64,
+    f: &[u64],
+    g: &[u64],
+    q: &mut [u64],
+    r: &mut [u64],
+    work: &mut [u64],
+) -> Report
     requires { ⌜ (Prime p) × (p ≤ limit) × (0 < records (now g)) × (records (now g) ≤ inputTerms) × (records (now q) ≤ inputTerms) × (4 * records (now q) ≤ length (now work)) × (records (now r) ≤ roomTerms) ⌝ }
     requires { ⌜ (Valid p (now f)) × (Valid p (now g)) ⌝ }
     ensures { λ t. ⌜ divided t (now (q .exit)) (now (r .exit)) (now (work .exit)) ≡ afterDivision (walkBy p (divisionJudges (polyOf base (now (g .entry))) (records (now (q .entry))) (records (now (r .entry)))) (polyOf base (now (f .entry))) (polyOf base (now (g .entry)))) (now (q .entry)) (now (r .entry)) (now (work .entry)) ⌝ }

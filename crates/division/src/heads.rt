@@ -17,7 +17,15 @@ pub struct Head {
 }
 
 // Takes the greatest monomial, whose key is given, out of what remains.
-pub fn take_head(p: u64, f: &[u64], g: &[u64], q: &[u64], work: &mut [u64], i: usize, k: u64) -> Head
+pub fn take_head(
+    p: u64,
+    f: &[u64],
+    g: &[u64],
+    q: &[u64],
+    work: &mut [u64],
+    i: usize,
+    k: u64,
+) -> Head
     requires { ⌜ (0 < p) × (p ≤ limit) × (0 < k) × (k ≡ max (keyAt (now f) i) (wordAt (now work) 1)) × (i ≤ records (now f)) ⌝ }
     requires { ⌜ (Valid p (now f)) × (Valid p (now g)) × (Sides (now q) (now g) p) ⌝ }
     requires { ⌜ (Live (now q) (now g) (now work)) × (records (now q) ≡ 0 → wordAt (now work) 1 ≡ 0) ⌝ }
@@ -30,7 +38,10 @@ pub fn take_head(p: u64, f: &[u64], g: &[u64], q: &[u64], work: &mut [u64], i: u
             number: add_mod(p, f[2 * i + 1], minus),
         }
     } else {
-        Head { next: i, number: minus }
+        Head {
+            next: i,
+            number: minus,
+        }
     }
 }
 

@@ -25,7 +25,14 @@ pub struct Plan {
 }
 
 // The plan of a call, for inputs that were found good.
-pub fn prepare(p: u64, f: &[u64], g: &[u64], test: bool, quotients: usize, remainders: usize) -> Plan
+pub fn prepare(
+    p: u64,
+    f: &[u64],
+    g: &[u64],
+    test: bool,
+    quotients: usize,
+    remainders: usize,
+) -> Plan
     requires { ⌜ (Prime p) × (p ≤ limit) × (0 < records (now g)) × (records (now g) < 2 ^ 32) ⌝ }
     requires { ⌜ (Valid p (now f)) × (Valid p (now g)) ⌝ }
     ensures { λ r. ⌜ (Ready p (now (f .entry)) (now (g .entry)) r) × (r .test ≡ test) × (r .quotients ≡ quotients) × (r .remainders ≡ remainders) ⌝ }

@@ -1,6 +1,6 @@
 // One step of the walk: the greatest monomial of what remains goes to the quotient or to the remainder, or was cancelled.
 ghost use mathlib.Core.Path.{_≡_};
-ghost use Prim.Native.Nat.{ℕ, suc, _+_, _<_, _≤_, _^_, max};
+ghost use Prim.Native.Nat.{ℕ, suc, _+_, _<_, _^_, max};
 ghost use Rattle.poly.specs.Words.{records, wordAt};
 ghost use Rattle.ring.specs.Tree.{Live};
 ghost use Rattle.division.specs.Walking.{keyAt, Ready, Walking, RowPut, Stepped};
@@ -20,7 +20,17 @@ pub struct State {
 }
 
 // Handles the greatest monomial of what remains, whose key is k.
-pub fn step(p: u64, f: &[u64], g: &[u64], q: &mut [u64], r: &mut [u64], work: &mut [u64], plan: Plan, s: State, k: u64) -> State
+pub fn step(
+    p: u64,
+    f: &[u64],
+    g: &[u64],
+    q: &mut [u64],
+    r: &mut [u64],
+    work: &mut [u64],
+    plan: Plan,
+    s: State,
+    k: u64,
+) -> State
     requires { ⌜ (0 < k) × (k ≡ max (keyAt (now f) (s .next)) (wordAt (now work) 1)) ⌝ }
     requires { ⌜ Ready p (now f) (now g) plan ⌝ }
     requires { ⌜ Walking p (now f) (now g) plan (now q) (now r) (now work) (s .next) (s .quotient) (s .remainder) ⌝ }
@@ -31,25 +41,50 @@ pub fn step(p: u64, f: &[u64], g: &[u64], q: &mut [u64], r: &mut [u64], work: &m
     let h = take_head(p, f, g, q, work, s.next, k);
     let next = h.next;
     if h.number == 0 {
-        return State { next, quotient: n, remainder: j, reply: 0 };
+        return State {
+            next,
+            quotient: n,
+            remainder: j,
+            reply: 0,
+        };
     }
     let monomial = k - 1;
     if monomial::divides(g[0], monomial) {
         let word = monomial - g[0];
         let reply = judge_quotient(plan, word, n);
         if reply != 0 {
-            return State { next, quotient: n, remainder: j, reply };
+            return State {
+                next,
+                quotient: n,
+                remainder: j,
+                reply,
+            };
         }
         put_row(g, q, work, n, word, mul_mod(p, h.number, plan.inverse), k);
-        return State { next, quotient: n + 1, remainder: j, reply: 0 };
+        return State {
+            next,
+            quotient: n + 1,
+            remainder: j,
+            reply: 0,
+        };
     }
     let reply = judge_remainder(plan, j);
     if reply != 0 {
-        return State { next, quotient: n, remainder: j, reply };
+        return State {
+            next,
+            quotient: n,
+            remainder: j,
+            reply,
+        };
     }
     r[2 * j] = monomial;
     r[2 * j + 1] = h.number;
-    State { next, quotient: n, remainder: j + 1, reply: 0 }
+    State {
+        next,
+        quotient: n,
+        remainder: j + 1,
+        reply: 0,
+    }
 }
 
 // Writes a quotient term and lets its products wait, from the divisor's second term on.

@@ -1,7 +1,6 @@
 -- `division::steps::step` meets its contract.
-use Prim.Native.Nat.{_+_, _-_, _<_, _≤_, _^_}
-use mathlib.Core.Path.{sym, _∙_, ap}
-use mathlib.Core.Bool.{true, false}
+use Prim.Native.Nat.{_-_}
+use mathlib.Core.Path.{sym, _∙_}
 use native.Mathlib.Omega.{arith}
 use lib.ListN.{length-set}
 use Rattle.division.proofs.Judging.{divisor-monomial}
