@@ -19,7 +19,6 @@ use Rattle.algebra.specs.Residues.{pick}
 use Rattle.algebra.specs.Monomials.{Letters, exponent}
 use Rattle.algebra.specs.Orders.{exponent-adds}
 use Rattle.algebra.specs.Polynomials.{Term, term, Poly, largest}
-use Rattle.algebra.proofs.NormalForm.{all-map}
 use Rattle.field.specs.Answers.{value, noValue}
 use Rattle.field.specs.declared.Value.{Value}
 use Rattle.monomial.specs.Answers.{packOf}
@@ -28,10 +27,10 @@ use Rattle.monomial.proofs.Fields.{fits-letters, exponent-none, divides-fits}
 use Rattle.monomial.proofs.Laws.{read, write, fit, word-monomial, word-read, sum-monomial, sum-divides}
 use Rattle.poly.specs.Words.{records, wordAt, polyOf}
 use Rattle.poly.specs.Valid.{Valid}
-use Rattle.poly.proofs.Readings.{valid-fits, weight-within}
+use Rattle.poly.proofs.Readings.{weight-within}
 use Rattle.poly.specs.Services.{measureOf}
 use Rattle.poly.specs.declared.profile.Profile.{Profile}
-use Rattle.ring.proofs.Bursts.{largest-most, exponents-of}
+use Rattle.ring.proofs.Bursts.{exponents-most, exponents-of}
 use Rattle.division.specs.Calls.{maxima, unlessFull}
 use Rattle.division.specs.Walking.{judgesBy, judgesOf, quotientReply, remainderReply, Ready}
 use Rattle.division.specs.declared.plan.Plan.{Plan}
@@ -47,9 +46,7 @@ pub maxima-fits : (p : ℕ) (s : List ℕ) → Valid p s → fit base (maxima (p
 maxima-fits p s h = fits-letters 16 4 (maxima (polyOf base s)) .1 (λ v. go v (decLt v 4))
   where
     go : (v : ℕ) → Dec (v < 4) → exponent 4 v (maxima (polyOf base s)) ≤ 32767
-    go v (yes l) =
-        let most : largest (exponent 4 v) (polyOf base s) ≤ 32767 = largest-most (exponent 4 v) 32767 (polyOf base s) (all-map (λ m f. fits-letters 16 4 m .0 f v) (polyOf base s) (valid-fits p s h)) in
-        omega (arith, maxima-exponent (polyOf base s) v l)
+    go v (yes l) = omega (arith, maxima-exponent (polyOf base s) v l, exponents-most p s h v)
     go v (no l) = omega (arith, exponent-none 16 4 v (maxima (polyOf base s)) (omega arith))
 
 pub packed : (s : List ℕ) (m : Profile) → m ≡ measureOf s → fit base (maxima (polyOf base s)) ≡ true → (v : Value) → v ≡ packOf base (getD (m .exponents) 0 0, (getD (m .exponents) 1 0, (getD (m .exponents) 2 0, (getD (m .exponents) 3 0, tt)))) → v .value ≡ write base (maxima (polyOf base s))

@@ -4,7 +4,7 @@
 --   burst-found, burst-none the first letter that bursts; none does
 --   burst-some              a letter that bursts, where the first is one of the four
 --   burst-comm              the factors may change places
---   largest-most, exponents-most, exponents-small, word-small, words-small, sides      bounds of valid slices
+--   exponents-most, exponents-small, word-small, words-small, sides      bounds of valid slices
 --   no-burst, products-fit  where no letter bursts, every product of monomials fits
 use Prim.Native.Nat.{ℕ, _+_, _/_, _^_, _≤_, _<_}
 use mathlib.Core.Path.{_≡_, refl, _∙_, ap}
@@ -82,7 +82,7 @@ module _ (f g : Poly (Letters 4)) (h : 4 ≤ burstAt f g) where
 
 -- Bounds of valid slices
 
-pub largest-most : (w : Letters 4 .Mon → ℕ) (b : ℕ) (f : Poly (Letters 4)) → All (λ m. w m ≤ b) f → largest w f ≤ b
+largest-most : (w : Letters 4 .Mon → ℕ) (b : ℕ) (f : Poly (Letters 4)) → All (λ m. w m ≤ b) f → largest w f ≤ b
 largest-most w b [] a = omega arith
 largest-most w b (u ∷ f) a = max-le (a .0) (largest-most w b f (a .1))
 
