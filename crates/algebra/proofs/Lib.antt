@@ -13,3 +13,4 @@ pub mod Walk
 pub mod Clauses
 pub mod Exact
 pub mod Coding
+pub mod Verdicts

@@ -1,6 +1,7 @@
 -- The normal form: it is the polynomial, it is normal, and it is the only one.
 --
 --   Small p f                     every number of f is below p
+--   reduced-small                 reduced numbers are below p
 --   all-map, all-append           of `All P f`: every monomial of f has the property P
 --   below-trans                   of `Below O m f`: every monomial of f is below m
 --   apart, below-coef             a term below m is not at m; the coefficient at a monomial that all are below is 0
@@ -21,7 +22,7 @@ use native.Mathlib.Omega.{arith}
 use Rattle.algebra.specs.Residues.{Same}
 use Rattle.algebra.specs.Monomials.{Monomials}
 use Rattle.algebra.specs.Orders.{Order, Tri, below, level, above}
-use Rattle.algebra.specs.Polynomials.{Term, term, Poly, only, coef, Equal, keep, nonzero, placed, insert, sorted, norm, All, Below, Falling, Normal}
+use Rattle.algebra.specs.Polynomials.{Term, term, Poly, only, coef, Equal, keep, nonzero, placed, insert, sorted, norm, All, Below, Falling, Reduced, Normal}
 use Rattle.algebra.proofs.Residues.{
   same-eq,
   same-refl,
@@ -38,6 +39,10 @@ use Rattle.algebra.proofs.Totals.{total, equal-by}
 abbrev pub Small : {K : Monomials} → ℕ → Poly K → Type 0
 Small p [] = Unit {0}
 Small p (u ∷ f) = (u .num < p) × Small p f
+
+pub reduced-small : {K : Monomials} (p : ℕ) (f : Poly K) → Reduced p f → Small p f
+reduced-small p [] r = tt
+reduced-small p (u ∷ f) r = (r .1, reduced-small p f (r .2))
 
 module _ {K : Monomials} {p : ℕ} where
   pub equal-refl : {f : Poly K} → Equal p f f

@@ -6,6 +6,9 @@
 --   Divides f w           after the walk w down f: f ≡ q · g + (r + what is left), no term of r divisible by g's lead, q and r normal
 --   walk-divides          every walk divides, whatever its judges and however many its steps
 --   walk-done             a walk that replies 0 leaves nothing
+--   walk-no-remainder     a walk whose remainder judge lets nothing pass writes no remainder
+--   walk-passed           every quotient term that is written passed its judge
+--   walk-replies          a walk replies 0, `unfinished` or what a judge says
 --   walk-finishes         n steps are enough where every monomial met has a height below n, and a lower one less
 use Prim.Native.Nat.{ℕ, zero, suc, _+_, _*_, _%_, _<_}
 use mathlib.Core.Path.{_≡_, refl, sym, _∙_, ap, subst}
@@ -237,6 +240,78 @@ module _ {K : Monomials} (O : Order K) (p : ℕ) (lead : Term K) (later : Poly K
   walk-done zero i j (u ∷ f) e = absurd (omega arith)
   walk-done (suc n) i j [] e = refl
   walk-done (suc n) i j (u ∷ f) e = handle-done (walk O p lead later J n) (walk-done n) i j u f (u .num) (K .quotient (lead .mon) (u .mon)) e
+
+-- A walk whose remainder judge lets nothing pass writes no remainder.
+
+module _ {K : Monomials} (O : Order K) (p : ℕ) (lead : Term K) (later : Poly K) (J : Judges K) (strict : (j : ℕ) (u : Term K) → J .onRemainder j u ≡ 0 → ⊥) where
+  quotient-none : (r : ℕ) (t : Term K) (f : Poly K) (w : Walked K) → w .remainder ≡ [] → toQuotient r t f w .remainder ≡ []
+  quotient-none zero t f w d = d
+  quotient-none (suc r) t f w d = refl
+
+  remainder-none : (r : ℕ) (t : Term K) (f : Poly K) (w : Walked K) → (r ≡ 0 → ⊥) → toRemainder r t f w .remainder ≡ []
+  remainder-none zero t f w n = absurd (n refl)
+  remainder-none (suc r) t f w n = refl
+
+  handle-none : (next : ℕ → ℕ → Poly K → Walked K) → ((i j : ℕ) (f : Poly K) → next i j f .remainder ≡ []) → (i j : ℕ) (u : Term K) (f : Poly K) (c : ℕ) (d : Dec ((q : K .Mon) × (K .mul (lead .mon) q ≡ u .mon))) → handle O p lead later J next i j u f c d .remainder ≡ []
+  handle-none next rest i j u f zero d = rest i j f
+  handle-none next rest i j u f (suc c) (yes q) =
+      let t = quotientTerm p lead (q .0) u in
+      quotient-none (J .onQuotient i t) t (u ∷ f) _ (rest (suc i) j (remains O p later t f))
+  handle-none next rest i j u f (suc c) (no n) = remainder-none (J .onRemainder j u) u (u ∷ f) _ (strict j u)
+
+  pub walk-no-remainder : (n i j : ℕ) (f : Poly K) → walk O p lead later J n i j f .remainder ≡ []
+  walk-no-remainder zero i j [] = refl
+  walk-no-remainder zero i j (u ∷ f) = refl
+  walk-no-remainder (suc n) i j [] = refl
+  walk-no-remainder (suc n) i j (u ∷ f) = handle-none (walk O p lead later J n) (walk-no-remainder n) i j u f (u .num) (K .quotient (lead .mon) (u .mon))
+
+-- Every quotient term that is written passed its judge.
+
+module _ {K : Monomials} (O : Order K) (p : ℕ) (lead : Term K) (later : Poly K) (J : Judges K) (P : K .Mon → Type 0) (passed : (i : ℕ) (t : Term K) → J .onQuotient i t ≡ 0 → P (t .mon)) where
+  quotient-passed : (r : ℕ) (t : Term K) (f : Poly K) (w : Walked K) → (r ≡ 0 → P (t .mon)) → All P (w .quotient) → All P (toQuotient r t f w .quotient)
+  quotient-passed zero t f w h a = (h refl, a)
+  quotient-passed (suc r) t f w h a = tt
+
+  remainder-passed : (r : ℕ) (t : Term K) (f : Poly K) (w : Walked K) → All P (w .quotient) → All P (toRemainder r t f w .quotient)
+  remainder-passed zero t f w a = a
+  remainder-passed (suc r) t f w a = tt
+
+  handle-passed : (next : ℕ → ℕ → Poly K → Walked K) → ((i j : ℕ) (f : Poly K) → All P (next i j f .quotient)) → (i j : ℕ) (u : Term K) (f : Poly K) (c : ℕ) (d : Dec ((q : K .Mon) × (K .mul (lead .mon) q ≡ u .mon))) → All P (handle O p lead later J next i j u f c d .quotient)
+  handle-passed next rest i j u f zero d = rest i j f
+  handle-passed next rest i j u f (suc c) (yes q) =
+      let t = quotientTerm p lead (q .0) u in
+      quotient-passed (J .onQuotient i t) t (u ∷ f) _ (passed i t) (rest (suc i) j (remains O p later t f))
+  handle-passed next rest i j u f (suc c) (no n) = remainder-passed (J .onRemainder j u) u (u ∷ f) _ (rest i (suc j) f)
+
+  pub walk-passed : (n i j : ℕ) (f : Poly K) → All P (walk O p lead later J n i j f .quotient)
+  walk-passed zero i j [] = tt
+  walk-passed zero i j (u ∷ f) = tt
+  walk-passed (suc n) i j [] = tt
+  walk-passed (suc n) i j (u ∷ f) = handle-passed (walk O p lead later J n) (walk-passed n) i j u f (u .num) (K .quotient (lead .mon) (u .mon))
+
+-- The reply of a walk is 0, `unfinished`, or a judge's.
+
+module _ {K : Monomials} (O : Order K) (p : ℕ) (lead : Term K) (later : Poly K) (J : Judges K) (P : ℕ → Type 0) (ended : P 0) (paused : P unfinished) (one : (i : ℕ) (t : Term K) → P (J .onQuotient i t)) (two : (j : ℕ) (u : Term K) → P (J .onRemainder j u)) where
+  quotient-replies : (r : ℕ) (t : Term K) (f : Poly K) (w : Walked K) → P r → P (w .reply) → P (toQuotient r t f w .reply)
+  quotient-replies zero t f w a b = b
+  quotient-replies (suc r) t f w a b = a
+
+  remainder-replies : (r : ℕ) (t : Term K) (f : Poly K) (w : Walked K) → P r → P (w .reply) → P (toRemainder r t f w .reply)
+  remainder-replies zero t f w a b = b
+  remainder-replies (suc r) t f w a b = a
+
+  handle-replies : (next : ℕ → ℕ → Poly K → Walked K) → ((i j : ℕ) (f : Poly K) → P (next i j f .reply)) → (i j : ℕ) (u : Term K) (f : Poly K) (c : ℕ) (d : Dec ((q : K .Mon) × (K .mul (lead .mon) q ≡ u .mon))) → P (handle O p lead later J next i j u f c d .reply)
+  handle-replies next rest i j u f zero d = rest i j f
+  handle-replies next rest i j u f (suc c) (yes q) =
+      let t = quotientTerm p lead (q .0) u in
+      quotient-replies (J .onQuotient i t) t (u ∷ f) _ (one i t) (rest (suc i) j (remains O p later t f))
+  handle-replies next rest i j u f (suc c) (no n) = remainder-replies (J .onRemainder j u) u (u ∷ f) _ (two j u) (rest i (suc j) f)
+
+  pub walk-replies : (n i j : ℕ) (f : Poly K) → P (walk O p lead later J n i j f .reply)
+  walk-replies zero i j [] = ended
+  walk-replies zero i j (u ∷ f) = paused
+  walk-replies (suc n) i j [] = ended
+  walk-replies (suc n) i j (u ∷ f) = handle-replies (walk O p lead later J n) (walk-replies n) i j u f (u .num) (K .quotient (lead .mon) (u .mon))
 
 -- Enough steps: monomials that are met have the property `Good`, and among them a lower one has a lower height.
 

@@ -9,3 +9,6 @@ pub mod Ends
 pub mod Accepted
 pub mod Finishes
 pub mod Determined
+pub mod Verdicts
+pub mod Due
+pub mod TestClaims

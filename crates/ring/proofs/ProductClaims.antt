@@ -56,11 +56,11 @@ use Rattle.ring.proofs.Multiplying.{
 use Rattle.ring.proofs.product.product.Reads as call
 
 -- of a report in an outcome
-number-told : {r q : Report} {o o′ w w′ : List ℕ} → outcome r o w ≡ outcome q o′ w′ → r .number ≡ q .number
+pub number-told : {r q : Report} {o o′ w w′ : List ℕ} → outcome r o w ≡ outcome q o′ w′ → r .number ≡ q .number
 number-told e = ap (λ (x : Outcome). x .report .number) e
 
 -- the three parts of an outcome
-parts : {r q : Report} {o o′ w w′ : List ℕ} → outcome r o w ≡ outcome q o′ w′ → (r ≡ q) × (o ≡ o′) × (w ≡ w′)
+pub parts : {r q : Report} {o o′ w w′ : List ℕ} → outcome r o w ≡ outcome q o′ w′ → (r ≡ q) × (o ≡ o′) × (w ≡ w′)
 parts e = (ap (λ (x : Outcome). x .report) e, ap (λ (x : Outcome). x .room) e, ap (λ (x : Outcome). x .work) e)
 
 module _ (p : ℕ) (a b room work : List ℕ) (r : Report) (out spent : List ℕ) where
