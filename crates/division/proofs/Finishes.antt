@@ -38,16 +38,16 @@ full-other : (i room n : ℕ) → n < unfinished → unlessFull i room n ≡ unf
 full-other i room n h e = picked (ltb i room) 0 n unfinished (λ z. omega arith) (λ z. omega arith) e
 
 module _ (f g : Poly (Letters 4)) (q r : ℕ) where
-  quotient-answers : (b : Bool) (i : ℕ) (t : Term (Letters 4)) → judgesBy b f g q r .onQuotient i t ≡ unfinished → ⊥
+  pub quotient-answers : (b : Bool) (i : ℕ) (t : Term (Letters 4)) → judgesBy b f g q r .onQuotient i t ≡ unfinished → ⊥
   quotient-answers true i t e = picked (divides 4 (Letters 4 .mul (t .mon) (maxima g)) (maxima f)) (unlessFull i q 10) 12 unfinished (full-other i q 10 (omega arith)) (λ z. omega arith) e
   quotient-answers false i t e = picked (fits 16 4 (Letters 4 .mul (t .mon) (maxima g))) (unlessFull i q 10) 9 unfinished (full-other i q 10 (omega arith)) (λ z. omega arith) e
 
-  remainder-answers : (b : Bool) (j : ℕ) (t : Term (Letters 4)) → judgesBy b f g q r .onRemainder j t ≡ unfinished → ⊥
+  pub remainder-answers : (b : Bool) (j : ℕ) (t : Term (Letters 4)) → judgesBy b f g q r .onRemainder j t ≡ unfinished → ⊥
   remainder-answers true j t e = omega arith
   remainder-answers false j t e = full-other j r 11 (omega arith) e
 
   -- products with terms of g fit where the one with g's maxima does
-  products-fit : (t : Term (Letters 4)) → fit base (Letters 4 .mul (t .mon) (maxima g)) ≡ true → (k : Poly (Letters 4)) → ((v : ℕ) → All (λ m. exponent 4 v m ≤ largest (exponent 4 v) g) k) → All (λ m. fit base m ≡ true) (times t k)
+  pub products-fit : (t : Term (Letters 4)) → fit base (Letters 4 .mul (t .mon) (maxima g)) ≡ true → (k : Poly (Letters 4)) → ((v : ℕ) → All (λ m. exponent 4 v m ≤ largest (exponent 4 v) g) k) → All (λ m. fit base m ≡ true) (times t k)
   products-fit t h [] a = tt
   products-fit t h (u ∷ k) a = (fits-letters 16 4 (Letters 4 .mul (t .mon) (u .mon)) .1 (λ v. go v (decLt v 4)), products-fit t h k (λ v. a v .1))
     where
@@ -63,7 +63,7 @@ module _ (f g : Poly (Letters 4)) (q r : ℕ) where
           )
       go v (no b) = omega (arith, exponent-none 16 4 v (Letters 4 .mul (t .mon) (u .mon)) (omega arith))
 
-  pub heights : (b : Bool) → fit base (maxima f) ≡ true → (lead : Term (Letters 4)) (later : Poly (Letters 4)) → g ≡ lead ∷ later → Heights (Lex 4) later (judgesBy b f g q r)
+  unfoldable pub heights : (b : Bool) → fit base (maxima f) ≡ true → (lead : Term (Letters 4)) (later : Poly (Letters 4)) → g ≡ lead ∷ later → Heights (Lex 4) later (judgesBy b f g q r)
   heights b ff lead later e =
       record {
         Good = λ m. fit base m ≡ true;

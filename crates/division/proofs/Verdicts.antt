@@ -1,6 +1,5 @@
 -- What the walks of division and of the divide test say of all polynomials, of any size.
 --
---   division-heights, test-heights     the monomials met by a walk fit, so that their words bound its steps
 --   division-ends, test-ends           no walk runs out of steps
 --   test-replies              the divide test's walk replies 0, 10 or 12
 --   test-fits                 every quotient term that it writes fits
@@ -8,7 +7,7 @@
 --   test-no                   12: no polynomial of any size times g is f
 --   test-full                 10: every polynomial of any size that times g is f has more terms than the room
 --   exact-replies             a dividend that g divides exactly meets neither 9 nor 11 in division
-use Prim.Native.Nat.{ℕ, zero, suc, _+_, _^_, _<_, _≤_}
+use Prim.Native.Nat.{ℕ, _+_, _<_, _≤_}
 use mathlib.Core.Path.{_≡_, refl, sym, _∙_, ap, subst}
 use mathlib.Core.Bool.{Bool, true, false}
 use mathlib.Core.List.{[], _∷_, _++_, append-nil}
@@ -22,50 +21,31 @@ use borrow.Author.Tests.{ltb-false}
 use Rattle.algebra.specs.Residues.{Same, Prime, pick}
 use Rattle.algebra.specs.Monomials.{Letters, exponent}
 use Rattle.algebra.specs.Orders.{Lex, exponents, exponent-adds}
-use Rattle.algebra.specs.Polynomials.{Term, Poly, coef, Equal, times, mul, largest, norm, All, Normal}
+use Rattle.algebra.specs.Polynomials.{Term, Poly, coef, Equal, mul, largest, norm, All, Normal}
 use Rattle.algebra.specs.Walk.{Walked, unfinished, walk}
 use Rattle.algebra.proofs.NormalForm.{Small, reduced-small, all-map}
 use Rattle.algebra.proofs.Tests.{never}
-use Rattle.algebra.proofs.Degrees.{largest-all, factor-weight}
-use Rattle.algebra.proofs.Walk.{Heights, walk-finishes, walk-no-remainder, walk-passed, walk-replies}
+use Rattle.algebra.proofs.Degrees.{factor-weight}
+use Rattle.algebra.proofs.Walk.{walk-finishes, walk-no-remainder, walk-passed, walk-replies}
 use Rattle.algebra.proofs.Verdicts.{done-divides, next-coef, refused-term}
 use Rattle.monomial.specs.Layout.{base, fits, divides}
 use Rattle.monomial.proofs.Fields.{fits-letters, divides-letters, exponent-none}
-use Rattle.monomial.proofs.Laws.{write, fit, coding, word-monomial, monomial-below}
+use Rattle.monomial.proofs.Laws.{write, fit, word-monomial, monomial-below}
 use Rattle.division.specs.Calls.{maxima, unlessFull, divisionJudges, testJudges, steps}
+use Rattle.division.proofs.Judging.{maxima-exponent}
+use Rattle.division.proofs.Finishes.{heights}
 
 largest-most : (w : Letters 4 .Mon → ℕ) (b : ℕ) (f : Poly (Letters 4)) → All (λ m. w m ≤ b) f → largest w f ≤ b
 largest-most w b [] a = omega arith
 largest-most w b (u ∷ f) a = max-le (a .0) (largest-most w b f (a .1))
 
--- The letters of the maxima
-
-maxima-letter : (g : Poly (Letters 4)) (v : ℕ) → v < 4 → exponent 4 v (maxima g) ≡ largest (exponent 4 v) g
-maxima-letter g zero h = refl
-maxima-letter g (suc zero) h = refl
-maxima-letter g (suc (suc zero)) h = refl
-maxima-letter g (suc (suc (suc zero))) h = refl
-maxima-letter g (suc (suc (suc (suc v)))) h = absurd (omega arith)
-
 -- exponents of t plus M(g, v), letter by letter
 sum-letter : (g : Poly (Letters 4)) (m : Letters 4 .Mon) (v : ℕ) → v < 4 → exponent 4 v (Letters 4 .mul m (maxima g)) ≡ exponent 4 v m + largest (exponent 4 v) g
-sum-letter g m v h = exponent-adds 4 v m (maxima g) ∙ ap (λ (x : ℕ). exponent 4 v m + x) (maxima-letter g v h)
+sum-letter g m v h = exponent-adds 4 v m (maxima g) ∙ ap (λ (x : ℕ). exponent 4 v m + x) (maxima-exponent g v h)
 
 -- a bound for every letter, from one for the four
 every-letter : (m : Letters 4 .Mon) (b : ℕ → ℕ) → ((v : ℕ) → v < 4 → exponent 4 v m ≤ b v) → (v : ℕ) → exponent 4 v m ≤ b v
 every-letter m b h v = elim (decLt v 4) [ yes l ↦ h v l | no l ↦ omega (arith, exponent-none 16 4 v m (omega arith)) ]
-
--- products with a quotient term that passes fit
-times-fit : (g : Poly (Letters 4)) (t : Term (Letters 4)) (k : Poly (Letters 4)) → ((v : ℕ) → v < 4 → exponent 4 v (t .mon) + largest (exponent 4 v) g ≤ 32767) → ((v : ℕ) → All (λ m. exponent 4 v m ≤ largest (exponent 4 v) g) k) → All (λ m. fit base m ≡ true) (times t k)
-times-fit g t [] h a = tt
-times-fit g t (u ∷ k) h a = (
-  fits-letters 16 4 (Letters 4 .mul (t .mon) (u .mon)) .1
-      (every-letter (Letters 4 .mul (t .mon) (u .mon)) (λ v. 32767) (λ v l. omega (arith, exponent-adds 4 v (t .mon) (u .mon), a v .0, h v l))),
-  times-fit g t k h (λ v. a v .1),
-)
-
-word-below : (m : Letters 4 .Mon) → fit base m ≡ true → write base m < 2 ^ 64
-word-below m f = monomial-below base (write base m) (word-monomial base m f)
 
 -- what a judge that is passed says: the reply is 0 only where the test holds
 passed-test : (b : Bool) (n m : ℕ) → (m ≡ 0 → ⊥) → pick b n m ≡ 0 → b ≡ true
@@ -75,55 +55,6 @@ passed-test false n m k e = absurd (k e)
 module _ (lead : Term (Letters 4)) (later : Poly (Letters 4)) where
   abbrev divisor : Poly (Letters 4)
   divisor = lead ∷ later
-
-  later-weights : (v : ℕ) → All (λ m. exponent 4 v m ≤ largest (exponent 4 v) divisor) later
-  later-weights v = largest-all (exponent 4 v) divisor .1
-
-  full-reply : (i n m : ℕ) → (m ≡ 18 → ⊥) → unlessFull i n m ≡ 18 → ⊥
-  full-reply i n m k = go (ltb i n)
-    where
-      go : (b : Bool) → pick b 0 m ≡ 18 → ⊥
-      go true e = omega arith
-      go false e = k e
-
-  judged-reply : (b : Bool) (n m : ℕ) → (n ≡ 18 → ⊥) → (m ≡ 18 → ⊥) → pick b n m ≡ 18 → ⊥
-  judged-reply true n m k l = k
-  judged-reply false n m k l = l
-
-  pub division-heights : (q r : ℕ) → Heights (Lex 4) later (divisionJudges divisor q r)
-  division-heights q r =
-      record {
-        Good = λ m. fit base m ≡ true;
-        height = write base;
-        rises = λ a b f g h. coding base .word-less a b f g .0 h;
-        passes =
-            λ i t e.
-            let fine : fits 16 4 (Letters 4 .mul (t .mon) (maxima divisor)) ≡ true = passed-test (fits 16 4 (Letters 4 .mul (t .mon) (maxima divisor))) (unlessFull i q 10) 9 (λ z. omega arith) e in
-            times-fit divisor t later
-            (λ v l. omega (arith, sum-letter divisor (t .mon) v l, fits-letters 16 4 (Letters 4 .mul (t .mon) (maxima divisor)) .0 fine v))
-            later-weights;
-        answers =
-            λ i t. (
-              judged-reply (fits 16 4 (Letters 4 .mul (t .mon) (maxima divisor))) (unlessFull i q 10) 9 (full-reply i q 10 (λ z. omega arith)) (λ z. omega arith),
-              full-reply i r 11 (λ z. omega arith),
-            );
-      }
-
-  pub test-heights : (f : Poly (Letters 4)) → ((v : ℕ) → largest (exponent 4 v) f ≤ 32767) → (q : ℕ) → Heights (Lex 4) later (testJudges f divisor q)
-  test-heights f small q =
-      record {
-        Good = λ m. fit base m ≡ true;
-        height = write base;
-        rises = λ a b f g h. coding base .word-less a b f g .0 h;
-        passes =
-            λ i t e.
-            let fine : divides 4 (Letters 4 .mul (t .mon) (maxima divisor)) (maxima f) ≡ true = passed-test (divides 4 (Letters 4 .mul (t .mon) (maxima divisor)) (maxima f)) (unlessFull i q 10) 12 (λ z. omega arith) e in
-            times-fit divisor t later
-            (λ v l. omega (arith, sum-letter divisor (t .mon) v l, maxima-letter f v l, small v, divides-letters 4 (Letters 4 .mul (t .mon) (maxima divisor)) (maxima f) .0 fine v))
-            later-weights;
-        answers =
-            λ i t. (judged-reply (divides 4 (Letters 4 .mul (t .mon) (maxima divisor)) (maxima f)) (unlessFull i q 10) 12 (full-reply i q 10 (λ z. omega arith)) (λ z. omega arith), λ z. omega arith);
-      }
 
   abbrev Test : ℕ → Type 0
   Test n = (n ≡ 0) ⊎ ((n ≡ 10) ⊎ ((n ≡ 12) ⊎ (n ≡ 18)))
@@ -175,10 +106,13 @@ module _ (lead : Term (Letters 4)) (later : Poly (Letters 4)) where
 
     under : All (λ m. (fit base m ≡ true) × (write base m < steps)) f
     unfolding steps
-    under = all-map (λ m h. (h, word-below m h)) f ff
+    under = all-map (λ m h. (h, monomial-below base (write base m) (word-monomial base m h))) f ff
 
     weights : (v : ℕ) → largest (exponent 4 v) f ≤ 32767
     weights v = largest-most (exponent 4 v) 32767 f (all-map (λ m h. fits-letters 16 4 m .0 h v) f ff)
+
+    maxima-fit : fit base (maxima f) ≡ true
+    maxima-fit = fits-letters 16 4 (maxima f) .1 (every-letter (maxima f) (λ v. 32767) (λ v l. omega (arith, maxima-exponent f v l, weights v)))
 
     abbrev divideWalk : ℕ → ℕ → Walked (Letters 4)
     divideWalk q r = walk (Lex 4) p lead later (divisionJudges divisor q r) steps 0 0 f
@@ -187,12 +121,12 @@ module _ (lead : Term (Letters 4)) (later : Poly (Letters 4)) where
     testWalk q = walk (Lex 4) p lead later (testJudges f divisor q) steps 0 0 f
 
     pub division-ends : (q r : ℕ) → divideWalk q r .reply ≡ unfinished → ⊥
-    unfolding division-heights
-    division-ends q r = walk-finishes (Lex 4) P lead later ng (divisionJudges divisor q r) (division-heights q r) steps 0 0 f (nf .falling) under
+    unfolding heights
+    division-ends q r = walk-finishes (Lex 4) P lead later ng (divisionJudges divisor q r) (heights f divisor q r false maxima-fit lead later refl) steps 0 0 f (nf .falling) under
 
     pub test-ends : (q : ℕ) → testWalk q .reply ≡ unfinished → ⊥
-    unfolding test-heights
-    test-ends q = walk-finishes (Lex 4) P lead later ng (testJudges f divisor q) (test-heights f weights q) steps 0 0 f (nf .falling) under
+    unfolding heights
+    test-ends q = walk-finishes (Lex 4) P lead later ng (testJudges f divisor q) (heights f divisor q 0 true maxima-fit lead later refl) steps 0 0 f (nf .falling) under
 
     pub test-replies : (q : ℕ) → (testWalk q .reply ≡ 0) ⊎ ((testWalk q .reply ≡ 10) ⊎ (testWalk q .reply ≡ 12))
     test-replies q = go (walk-replies (Lex 4) p lead later (testJudges f divisor q) Test (inl refl) (inr (inr (inr refl))) (λ i t. judged-test (divides 4 (Letters 4 .mul (t .mon) (maxima divisor)) (maxima f)) i q) (λ j u. inr (inr (inl refl))) steps 0 0 f)
@@ -210,7 +144,7 @@ module _ (lead : Term (Letters 4)) (later : Poly (Letters 4)) where
         let fine : divides 4 (Letters 4 .mul (t .mon) (maxima divisor)) (maxima f) ≡ true = passed-test (divides 4 (Letters 4 .mul (t .mon) (maxima divisor)) (maxima f)) (unlessFull i q 10) 12 (λ z. omega arith) e in
         fits-letters 16 4 (t .mon) .1
         (every-letter (t .mon) (λ v. 32767)
-        (λ v l. omega (arith, sum-letter divisor (t .mon) v l, maxima-letter f v l, weights v, divides-letters 4 (Letters 4 .mul (t .mon) (maxima divisor)) (maxima f) .0 fine v))))
+        (λ v l. omega (arith, sum-letter divisor (t .mon) v l, maxima-exponent f v l, weights v, divides-letters 4 (Letters 4 .mul (t .mon) (maxima divisor)) (maxima f) .0 fine v))))
         steps 0 0 f
 
     pub test-yes : (q : ℕ) → testWalk q .reply ≡ 0 → Equal p f (mul (testWalk q .quotient) divisor)
@@ -226,7 +160,7 @@ module _ (lead : Term (Letters 4)) (later : Poly (Letters 4)) where
     stop-passed : (h : Poly (Letters 4)) → Equal p f (mul h divisor) → (m : Letters 4 .Mon) → (Same p (coef h m) 0 → ⊥) → divides 4 (Letters 4 .mul m (maxima divisor)) (maxima f) ≡ true
     stop-passed h d m c =
         divides-letters 4 (Letters 4 .mul m (maxima divisor)) (maxima f) .1
-        (every-letter (Letters 4 .mul m (maxima divisor)) (λ v. exponent 4 v (maxima f)) (λ v l. omega (arith, sum-letter divisor m v l, maxima-letter f v l, room-left h d m c v)))
+        (every-letter (Letters 4 .mul m (maxima divisor)) (λ v. exponent 4 v (maxima f)) (λ v l. omega (arith, sum-letter divisor m v l, maxima-exponent f v l, room-left h d m c v)))
 
     pub test-no : (q : ℕ) → testWalk q .reply ≡ 12 → (h : Poly (Letters 4)) → Equal p f (mul h divisor) → ⊥
     test-no q e h d =
