@@ -1,6 +1,7 @@
 -- Largest weights of products: in each letter, and in total degree, largest degrees add.
 --
 --   largest-all       no monomial weighs more than the largest weight
+--   largest-most      a bound for every monomial bounds the largest weight
 --   largest-at        no monomial that has a coefficient weighs more than the largest weight
 --   largest-bound     a bound for every monomial that has a coefficient bounds the largest weight of a normal polynomial
 --   largest-equal     equal normal polynomials have one largest weight, whatever their orders
@@ -40,6 +41,10 @@ module _ {K : Monomials} (w : K .Mon → ℕ) where
     le-max-left (w (u .mon)) (largest w f),
     all-map {P = λ m. w m ≤ largest w f} {Q = λ m. w m ≤ max (w (u .mon)) (largest w f)} (λ m h. le-trans h (le-max-right (w (u .mon)) (largest w f))) f (largest-all f),
   )
+
+  pub largest-most : (b : ℕ) (f : Poly K) → All (λ m. w m ≤ b) f → largest w f ≤ b
+  largest-most b [] a = omega arith
+  largest-most b (u ∷ f) a = max-le (a .0) (largest-most b f (a .1))
 
   pub largest-at : (f : Poly K) (m : K .Mon) → (coef f m ≡ 0 → ⊥) → w m ≤ largest w f
   largest-at [] m h = absurd (h refl)

@@ -9,7 +9,9 @@ pub mod Ring
 pub mod Sorted
 pub mod Leads
 pub mod Degrees
+pub mod Steps
 pub mod Walk
+pub mod Ends
 pub mod Clauses
 pub mod Exact
 pub mod Coding

@@ -1,13 +1,13 @@
 -- What the end of a walk says of all polynomials, of any size.
 --
---   term-coef             a term of a normal polynomial is its coefficient there
 --   done-divides          a walk that replies 0 has found f ≡ q · g + r with no term of r divisible by g's lead, q and r normal
 --   done-only             and every pair of lists with these two properties is equal to q and r
 --   refused-term          where f ≡ h · g and the walk was stopped by a judge, that judge refused the next term of h's normal form
---   exact-front, exact-none   where f ≡ h · g, the quotient is a front part of h's normal form, and there is no remainder
+--   exact-none            where f ≡ h · g, there is no remainder
 --   next-coef             a term of h's normal form stands at a monomial where h has a coefficient
 --   exact-done            where f ≡ h · g, a walk that replies 0 has written h's normal form
-use Prim.Native.Nat.{ℕ, zero, _+_}
+--   Trouble, stop-trouble     where a walk was stopped: f ≡ q · g + r + what is left, and what the judge said of its greatest term
+use Prim.Native.Nat.{ℕ, zero, _+_, _<_}
 use mathlib.Core.Path.{_≡_, refl, sym, _∙_, ap, subst}
 use mathlib.Core.List.{[], _∷_, _++_, append-nil}
 use mathlib.Core.Logic.{_⊎_, inl, inr}
@@ -23,7 +23,8 @@ use Rattle.algebra.proofs.Residues.{same-eq, same-trans}
 use Rattle.algebra.proofs.Primes.{below-not-zero}
 use Rattle.algebra.proofs.NormalForm.{Small, lead-coef, norm-normal, norm-equal, normal-unique, equal-sym, equal-trans}
 use Rattle.algebra.proofs.Leads.{prime-positive, normal-tail, multiple-zero, division-unique}
-use Rattle.algebra.proofs.Walk.{Divides, walk-divides, walk-done}
+use Rattle.algebra.proofs.Walk.{Divides, walk-divides}
+use Rattle.algebra.proofs.Ends.{Judged, Stop, walk-done, walk-stopped}
 use Rattle.algebra.proofs.Exact.{Exact, walk-exact}
 
 module _ {K : Monomials} (O : Order K) where
@@ -36,7 +37,7 @@ module _ {K : Monomials} (O : Order K) where
   later-below m [] t g b = b .0
   later-below m (u ∷ f) t g b = later-below m f t g (b .1)
 
-  pub term-coef : (f : Poly K) (t : Term K) (g : Poly K) → Falling O (f ++ t ∷ g) → coef (f ++ t ∷ g) (t .mon) ≡ t .num
+  term-coef : (f : Poly K) (t : Term K) (g : Poly K) → Falling O (f ++ t ∷ g) → coef (f ++ t ∷ g) (t .mon) ≡ t .num
   term-coef [] t g d = lead-coef O t g (d .0)
   term-coef (u ∷ f) t g d =
       omega (arith, apart (u .mon) (t .mon) (u .num) (K .decide (u .mon) (t .mon)) (later-below (u .mon) f t g (d .0)), term-coef f t g (d .1))
@@ -45,6 +46,15 @@ module _ {K : Monomials} (O : Order K) where
 back-normal : {K : Monomials} {O : Order K} {p : ℕ} (f g : Poly K) → Normal O p (f ++ g) → Normal O p g
 back-normal [] g n = n
 back-normal (u ∷ f) g n = back-normal f g (normal-tail u (f ++ g) n)
+
+-- What is left after the terms q and r were written falls from the term `at`, and the judge that is asked of it said n.
+pub record Trouble {K : Monomials} (O : Order K) (p : ℕ) (lead : Term K) (later : Poly K) (J : Judges K) (f q r : Poly K) (n : ℕ) : Type 0 where
+  pub at : Term K
+  pub below : Poly K
+  pub equation : Equal p f (mul q (lead ∷ later) ++ (r ++ at ∷ below))
+  pub falling : Falling O (at ∷ below)
+  pub number : 0 < at .num
+  pub judged : Judged O p lead later J (length q) (length r) at n
 
 module _ {K : Monomials} (O : Order K) {p : ℕ} (P : Prime p) (lead : Term K) (later : Poly K) (ng : Normal O p (lead ∷ later)) (J : Judges K) (n : ℕ) (f : Poly K) (fall : Falling O f) (small : Small p f) where
   abbrev walked : Walked K
@@ -64,13 +74,24 @@ module _ {K : Monomials} (O : Order K) {p : ℕ} (P : Prime p) (lead : Term K) (
       let own = done-divides e in
       division-unique O P lead later ng (walked .quotient) (walked .remainder) q′ r′ (equal-trans (equal-sym (own .0)) d) (own .1) z
 
+  pub stop-trouble : (walked .reply ≡ 0 → ⊥) → (walked .reply ≡ unfinished → ⊥) → Trouble O p lead later J f (walked .quotient) (walked .remainder) (walked .reply)
+  stop-trouble a b =
+      let s : Stop O p lead later J 0 0 walked = walk-stopped O p lead later J n 0 0 f a b in
+      record {
+        at = s .at;
+        below = s .below;
+        equation = subst (λ (k : Poly K). Equal p f (mul (walked .quotient) (lead ∷ later) ++ (walked .remainder ++ k))) (s .left) (divided .equation);
+        falling = subst (Falling O) (s .left) (divided .left-falling);
+        number = s .number;
+        judged =
+            subst (λ (c : ℕ). Judged O p lead later J c (length (walked .remainder)) (s .at) (walked .reply)) (zero-add (length (walked .quotient)))
+            (subst (λ (c : ℕ). Judged O p lead later J (0 + length (walked .quotient)) c (s .at) (walked .reply)) (zero-add (length (walked .remainder))) (s .judged));
+      }
+
   -- f is a multiple of g
   module _ (h : Poly K) (d : Equal p f (mul h (lead ∷ later))) where
     exact : Exact O p lead later J h 0 walked
     exact = walk-exact O P lead later ng J n 0 0 f h fall small d
-
-    pub exact-front : (k : Poly K) × (norm O p h ≡ walked .quotient ++ k)
-    exact-front = (exact .rest, exact .written)
 
     pub exact-none : walked .remainder ≡ []
     exact-none = exact .none

@@ -11,7 +11,7 @@ use mathlib.Core.Path.{_≡_, refl, _∙_, ap}
 use mathlib.Core.Bool.{Bool, true}
 use mathlib.Core.List.{List, [], _∷_}
 use mathlib.Core.Logic.{inl, inr}
-use native.Mathlib.Nat.{add-comm, max-le}
+use native.Mathlib.Nat.{add-comm}
 use native.Mathlib.Decide.{decLt}
 use native.Mathlib.Omega.{arith}
 use lib.Dec.{ltb}
@@ -23,7 +23,7 @@ use Rattle.algebra.specs.Orders.{exponent-adds}
 use Rattle.algebra.specs.Polynomials.{Term, Poly, times, mul, largest, All}
 use Rattle.algebra.proofs.Scan.{first-hit, first-miss, first-unique}
 use Rattle.algebra.proofs.NormalForm.{all-append, all-map}
-use Rattle.algebra.proofs.Degrees.{largest-all}
+use Rattle.algebra.proofs.Degrees.{largest-all, largest-most}
 use Rattle.monomial.specs.Layout.{base, isMonomial, largestExponent}
 use Rattle.monomial.proofs.Fields.{fits-letters, exponent-none}
 use Rattle.monomial.proofs.Laws.{read, fit, monomial-fits}
@@ -81,10 +81,6 @@ module _ (f g : Poly (Letters 4)) (h : 4 ≤ burstAt f g) where
   products-fit = fits-mul f g (λ v. largest-all (exponent 4 v) f) (λ v. largest-all (exponent 4 v) g)
 
 -- Bounds of valid slices
-
-largest-most : (w : Letters 4 .Mon → ℕ) (b : ℕ) (f : Poly (Letters 4)) → All (λ m. w m ≤ b) f → largest w f ≤ b
-largest-most w b [] a = omega arith
-largest-most w b (u ∷ f) a = max-le (a .0) (largest-most w b f (a .1))
 
 pub exponents-most : (p : ℕ) (s : List ℕ) → Valid p s → (v : ℕ) → largest (exponent 4 v) (polyOf base s) ≤ 32767
 exponents-most p s h v =
