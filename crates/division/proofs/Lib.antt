@@ -7,8 +7,10 @@ pub mod Onward
 pub mod Runs
 pub mod Ends
 pub mod Accepted
-pub mod Finishes
+pub mod Heights
 pub mod Determined
 pub mod Verdicts
+pub mod Ways
 pub mod Due
 pub mod TestClaims
+pub mod DivisionClaims

@@ -3,7 +3,7 @@
 --   decoded-negated, decoded-times, decoded-sorted     of negatives, of a term's products, of sorting
 --   remains-seen           what remains after a quotient term, on words
 --   negated-all            a property of every monomial of a negative
-use Prim.Native.Nat.{ℕ, _+_, _-_, _*_, _<_}
+use Prim.Native.Nat.{ℕ, _-_, _*_, _<_}
 use mathlib.Core.Path.{_≡_, refl, sym, _∙_, ap, subst}
 use mathlib.Core.Bool.{true}
 use mathlib.Core.List.{[], _∷_, _++_}

@@ -1,32 +1,26 @@
--- A walk never runs out of steps: every monomial that it meets fits a word, and each is lower than the one before.
+-- Why a walk never runs out of steps: every monomial that it meets fits a word, and each is lower than the one before.
 --
 --   heights                what `walk-finishes` asks, of both kinds of judges
---   never-unfinished       the walk of a call ends with nothing left or by a judge
-use Prim.Native.Nat.{ℕ, _-_, _^_, _<_, _≤_}
-use mathlib.Core.Path.{_≡_, sym, _∙_, ap, subst}
+use Prim.Native.Nat.{ℕ, _<_, _≤_}
+use mathlib.Core.Path.{_≡_, subst}
 use mathlib.Core.Bool.{Bool, true, false}
-use mathlib.Core.List.{List, [], _∷_}
+use mathlib.Core.List.{[], _∷_}
 use native.Mathlib.Decide.{decLt}
 use native.Mathlib.Omega.{arith}
 use lib.Dec.{ltb}
-use Rattle.algebra.specs.Residues.{Prime, pick}
+use Rattle.algebra.specs.Residues.{pick}
 use Rattle.algebra.specs.Monomials.{Letters, exponent}
 use Rattle.algebra.specs.Orders.{Lex, exponent-adds}
-use Rattle.algebra.specs.Polynomials.{Term, Poly, times, largest, All, Normal}
+use Rattle.algebra.specs.Polynomials.{Term, Poly, times, largest, All}
 use Rattle.algebra.specs.Walk.{unfinished}
-use Rattle.algebra.proofs.NormalForm.{all-map}
 use Rattle.algebra.proofs.Degrees.{largest-all}
-use Rattle.algebra.proofs.Walk.{Heights, walk-finishes}
+use Rattle.algebra.proofs.Ends.{Heights}
 use Rattle.monomial.specs.Layout.{base, fits, divides}
 use Rattle.monomial.proofs.Fields.{fits-letters, exponent-none}
-use Rattle.monomial.proofs.Laws.{write, fit, coding, word-monomial, monomial-below}
-use Rattle.poly.specs.Words.{records, termAt, terms, polyOf}
-use Rattle.poly.specs.Valid.{Valid}
-use Rattle.poly.proofs.Readings.{valid-fits, valid-normal}
-use Rattle.division.specs.Calls.{maxima, unlessFull, steps, walkBy}
+use Rattle.monomial.proofs.Laws.{write, fit, coding}
+use Rattle.division.specs.Calls.{maxima, unlessFull}
 use Rattle.division.specs.Walking.{judgesBy}
-use Rattle.division.proofs.Judging.{maxima-exponent, by-passes, maxima-fits}
-use Rattle.division.proofs.Runs.{steps-enough, divisor-terms}
+use Rattle.division.proofs.Judging.{maxima-exponent, by-passes}
 
 -- one of two replies
 picked : (t : Bool) (x y n : ℕ) → (x ≡ n → ⊥) → (y ≡ n → ⊥) → pick t x y ≡ n → ⊥
@@ -74,16 +68,3 @@ module _ (f g : Poly (Letters 4)) (q r : ℕ) where
             (λ v. subst (λ (k : Poly (Letters 4)). All (λ m. exponent 4 v m ≤ largest (exponent 4 v) g) k) e (largest-all (exponent 4 v) g) .1);
         answers = λ i t. (quotient-answers b i t, remainder-answers b i t);
       }
-
-pub never-unfinished : (p : ℕ) (f g : List ℕ) → Prime p → Valid p f → Valid p g → 0 < records g → (b : Bool) (q r : ℕ) → walkBy p (judgesBy b (polyOf base f) (polyOf base g) q r) (polyOf base f) (polyOf base g) .reply ≡ unfinished → ⊥
-unfolding heights
-never-unfinished p f g P vf vg some b q r e =
-    let lead = termAt base g 0 in
-    let later = terms base g 1 (records g - 1) in
-    let F = polyOf base f in
-    let G = polyOf base g in
-    let split : G ≡ lead ∷ later = divisor-terms g some in
-    walk-finishes (Lex 4) P lead later (subst (Normal (Lex 4) p) split (valid-normal p g vg)) (judgesBy b F G q r)
-    (heights F G q r b (maxima-fits p f vf) lead later split) steps 0 0 F (valid-normal p f vf .falling)
-    (all-map (λ m h. (h, let small : write base m < 2 ^ 64 = monomial-below base (write base m) (word-monomial base m h) in omega (arith, steps-enough))) F (valid-fits p f vf))
-    (ap (λ (x : Poly (Letters 4)). walkBy p (judgesBy b F G q r) F x .reply) (sym split) ∙ e)
