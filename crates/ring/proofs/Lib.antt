@@ -5,6 +5,7 @@ pub mod Ways
 pub mod Taking
 pub mod Planting
 pub mod Adding
+pub mod Growing
 pub mod Filling
 pub mod Bursts
 pub mod Transport

@@ -1,4 +1,5 @@
 // Sum, difference and product of polynomials, and the tree of rows that division stands on too.
+pub mod growth;
 pub mod inputs;
 pub mod product;
 pub mod room;

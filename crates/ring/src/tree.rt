@@ -78,7 +78,7 @@ fn plant(rows: &[u64], first: u64, work: &mut [u64])
 }
 
 // Makes every record above the leaves a copy of its greater child, from the last one to the root.
-fn build(work: &mut [u64], count: usize)
+pub fn build(work: &mut [u64], count: usize)
     requires { ⌜ 4 * count ≤ length (now work) ⌝ }
     ensures { λ r. ⌜ Built count (now (work .entry)) 1 (now (work .exit)) ⌝ }
 {
