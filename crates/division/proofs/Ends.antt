@@ -8,7 +8,7 @@
 --   all-zero, zero-long, tail-long     of a room that was cleared, from its front or behind its terms
 --   division-starts, division-refused, division-finished    a division from its start to its ends
 --   test-starts, test-refused, test-finished                a divide test
-use Prim.Native.Nat.{ℕ, _+_, _-_, _*_, _/_, _≤_}
+use Prim.Native.Nat.{ℕ, zero, suc, _+_, _-_, _*_, _/_, _≤_}
 use mathlib.Core.Path.{_≡_, refl, sym, _∙_, ap, subst}
 use mathlib.Core.Bool.{Bool, true, false}
 use mathlib.Core.List.{List, [], _∷_, _++_, append-nil}
@@ -29,19 +29,32 @@ use Rattle.poly.proofs.Readings.{flat, decodedPoly, flat-coded, flat-span, leng
 use Rattle.ring.specs.Outcomes.{Outcome, outcome, cleared}
 use Rattle.ring.proofs.Products.{all-cleared}
 use Rattle.division.specs.Calls.{divisionJudges, testJudges, walkBy, Divided, divided, afterDivision, afterTest}
-use Rattle.division.specs.Walking.{judgesBy, Ready, whole, Walking, Ran}
+use Rattle.division.specs.Walking.{judgesBy, Ready, whole, Walking, Fresh, Ran}
 use Rattle.division.specs.declared.plan.Plan.{Plan}
 use Rattle.division.specs.declared.steps.State.{State}
 use Rattle.division.proofs.Seen.{Monomial}
 use Rattle.division.proofs.Runs.{walk-starts}
 
-pub call-starts : (p : ℕ) (f g : List ℕ) (plan : Plan) → Ready p f g plan → (q r w q′ r′ w′ : List ℕ) → q′ ≡ cleared q → r′ ≡ cleared r → w′ ≡ cleared w → plan .quotients ≡ records q′ → plan .remainders ≡ records r′ → records q ≤ inputTerms → 4 * records q ≤ length w → Walking p f g plan q′ r′ w′ 0 0 0
+take-zeros : (n m : ℕ) → n ≤ m → take n (replicate {A = ℕ} m 0) ≡ replicate n 0
+take-zeros zero m h = refl
+take-zeros (suc n) zero h = absurd (omega arith)
+take-zeros (suc n) (suc m) h = ap (λ (x : List ℕ). 0 ∷ x) (take-zeros n m (omega arith))
+
+pub call-starts : (p : ℕ) (f g : List ℕ) (plan : Plan) → Ready p f g plan → (q r w q′ r′ w′ : List ℕ) → q′ ≡ cleared q → r′ ≡ cleared r → w′ ≡ cleared w → plan .quotients ≡ records q′ → plan .remainders ≡ records r′ → records q ≤ inputTerms → 4 * records q ≤ length w → Fresh p f g plan q′ r′ w′
 call-starts p f g plan R q r w q′ r′ w′ eq er ew room other few long =
-    let same : records (cleared q) ≡ records q = ap (λ (x : ℕ). x / 2) (length-replicate (length q) 0) in
-    subst (λ (x : List ℕ). Walking p f g plan x r′ w′ 0 0 0) (sym eq)
-    (subst (λ (x : List ℕ). Walking p f g plan (cleared q) x w′ 0 0 0) (sym er)
-    (subst (λ (x : List ℕ). Walking p f g plan (cleared q) (cleared r) x 0 0 0) (sym ew)
-    (walk-starts p f g plan R (length q) (length r) (length w) (room ∙ ap records eq) (other ∙ ap records er) (omega (arith, same)) (omega (arith, same)))))
+    record { quotients = room; long = omega (arith, same, ap length ew, length-replicate {A = ℕ} (length w) 0); few = omega (arith, same); starts = starts }
+  where
+    same : records q′ ≡ records q
+    same = ap records eq ∙ ap (λ (x : ℕ). x / 2) (length-replicate (length q) 0)
+
+    starts : (n : ℕ) → n ≤ records q′ → Walking p f g plan (take (2 * n) q′) r′ w′ 0 0 0
+    starts n h =
+        let rows : take (2 * n) q′ ≡ replicate (2 * n) 0 = ap (take (2 * n)) eq ∙ take-zeros (2 * n) (length q) (omega (arith, same)) in
+        let count : length (replicate {A = ℕ} (2 * n) 0) ≡ 2 * n = length-replicate (2 * n) 0 in
+        subst (λ (x : List ℕ). Walking p f g plan x r′ w′ 0 0 0) (sym rows)
+        (subst (λ (x : List ℕ). Walking p f g plan (replicate (2 * n) 0) x w′ 0 0 0) (sym er)
+        (subst (λ (x : List ℕ). Walking p f g plan (replicate (2 * n) 0) (cleared r) x 0 0 0) (sym ew)
+        (walk-starts p f g plan R (2 * n) (length r) (length w) (other ∙ ap records er) (omega (arith, same)) (omega (arith, same)))))
 
 pub same-walk : (p : ℕ) (f g : List ℕ) (plan : Plan) (test : Bool) (n m : ℕ) → plan .test ≡ test → plan .quotients ≡ n → plan .remainders ≡ m → whole p f g plan ≡ walkBy p (judgesBy test (polyOf base f) (polyOf base g) n m) (polyOf base f) (polyOf base g)
 same-walk p f g plan test n m et en em =
@@ -127,7 +140,7 @@ module _ (s s₁ s₂ : List ℕ) (e : length s₁ ≡ length s) where
 -- A call from its start to its end: the rooms and the work are cleared, the walk runs, and the work is cleared again.
 
 module _ (p : ℕ) (f g : List ℕ) (plan : Plan) (q r w q₁ r₁ w₁ : List ℕ) (cq : q₁ ≡ take 0 q ++ replicate (length q - 0) 0) (cr : r₁ ≡ take 0 r ++ replicate (length r - 0) 0) (cw : w₁ ≡ take 0 w ++ replicate (length w - 0) 0) (en : plan .quotients ≡ records q₁) (em : plan .remainders ≡ records r₁) where
-  pub division-starts : Ready p f g plan → records q ≤ inputTerms → 4 * records q ≤ length w → Walking p f g plan q₁ r₁ w₁ 0 0 0
+  pub division-starts : Ready p f g plan → records q ≤ inputTerms → 4 * records q ≤ length w → Fresh p f g plan q₁ r₁ w₁
   division-starts R few long =
       call-starts p f g plan R q r w q₁ r₁ w₁ (all-zero q q q₁ refl cq) (all-zero r r r₁ refl cr) (all-zero w w w₁ refl cw) en em few long
 
@@ -177,7 +190,7 @@ module _ (p : ℕ) (f g : List ℕ) (plan : Plan) (q r w q₁ r₁ w₁ : List �
 -- The divide test has no room for a remainder, and never writes one.
 
 module _ (p : ℕ) (f g : List ℕ) (plan : Plan) (q w q₁ w₁ : List ℕ) (cq : q₁ ≡ take 0 q ++ replicate (length q - 0) 0) (cw : w₁ ≡ take 0 w ++ replicate (length w - 0) 0) (en : plan .quotients ≡ records q₁) where
-  pub test-starts : Ready p f g plan → plan .remainders ≡ 0 → records q ≤ inputTerms → 4 * records q ≤ length w → Walking p f g plan q₁ (0 ∷ []) w₁ 0 0 0
+  pub test-starts : Ready p f g plan → plan .remainders ≡ 0 → records q ≤ inputTerms → 4 * records q ≤ length w → Fresh p f g plan q₁ (0 ∷ []) w₁
   test-starts R none few long =
       call-starts p f g plan R q (0 ∷ []) w q₁ (0 ∷ []) w₁ (all-zero q q q₁ refl cq) refl (all-zero w w w₁ refl cw) en none few long
 

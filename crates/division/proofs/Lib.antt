@@ -5,6 +5,7 @@ pub mod Greatest
 pub mod Rows
 pub mod Onward
 pub mod Runs
+pub mod Growth
 pub mod Ends
 pub mod Accepted
 pub mod Heights

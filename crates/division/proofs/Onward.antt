@@ -105,7 +105,6 @@ module _ (p : ℕ) (f g : List ℕ) (plan : Plan) (R : Ready p f g plan) (q r w 
             λ x. record {
               live = H .live;
               sides = W .sides;
-              quotients = W .quotients;
               remainders = W .remainders;
               within = H .within;
               quotient-within = W .quotient-within;
@@ -168,9 +167,9 @@ module _ (p : ℕ) (f g : List ℕ) (plan : Plan) (R : Ready p f g plan) (q r w 
             lower = λ x. absurd (z x);
           }
 
-      module _ (e : quotientReply (plan .test) (plan .divisor) (plan .dividend) (plan .quotients) word n ≡ 0) where
+      module _ (free : n < plan .quotients → n < records q) (e : quotientReply (plan .test) (plan .divisor) (plan .dividend) (plan .quotients) word n ≡ 0) where
         has-room : n < records q
-        has-room = omega (arith, passes-room p f g plan R word (quotient-word .0) n number e, W .quotients)
+        has-room = free (passes-room p f g plan R word (quotient-word .0) n number e)
 
         pub row-asked : ((n < records q) × (records q < 2 ^ 32) × (0 < records g) × (records g < 2 ^ 32) × ((x : ℕ) → suc x < records g → wordAt g (suc x) < wordAt g x)) × (((wordAt w′ (records q + n) ≡ 0) × (word + wordAt g 0 + 1 ≡ k) × (wordAt w′ 1 < k)) × Live q g w′)
         row-asked = (
@@ -178,12 +177,12 @@ module _ (p : ℕ) (f g : List ℕ) (plan : Plan) (R : Ready p f g plan) (q r w 
           ((H .empty n has-room (W .unwritten n (omega arith) has-room), omega (arith, quotient-word .1), omega (arith, H .lower, le-max-right (keyAt f i′) (wordAt w′ 1))), H .live),
         )
 
-      module _ (e : quotientReply (plan .test) (plan .divisor) (plan .dividend) (plan .quotients) word n ≡ 0) (q′ w″ : List ℕ) (m : ℕ) (product : m ≡ c * plan .inverse % p) (put-m : RowPut g q w′ n word m k q′ w″) where
+      module _ (free : n < plan .quotients → n < records q) (e : quotientReply (plan .test) (plan .divisor) (plan .dividend) (plan .quotients) word n ≡ 0) (q′ w″ : List ℕ) (m : ℕ) (product : m ≡ c * plan .inverse % p) (put-m : RowPut g q w′ n word m k q′ w″) where
         P : RowPut g q w′ n word number k q′ w″
         P = subst (λ x. RowPut g q w′ n word x k q′ w″) (product ∙ ap (λ x. c * x % p) (R .inverted)) put-m
 
         room : n < records q
-        room = row-asked e .0 .0
+        room = row-asked free e .0 .0
 
         inside : 2 * n + 1 < length q
         inside = omega (arith, room)
@@ -261,7 +260,6 @@ module _ (p : ℕ) (f g : List ℕ) (plan : Plan) (R : Ready p f g plan) (q r w 
                   λ x. record {
                     live = P .live;
                     sides = sides;
-                    quotients = W .quotients ∙ sym same;
                     remainders = W .remainders;
                     within = H .within;
                     quotient-within = omega (arith, same, room);
@@ -333,8 +331,7 @@ module _ (p : ℕ) (f g : List ℕ) (plan : Plan) (R : Ready p f g plan) (q r w 
                   λ x. record {
                     live = H .live;
                     sides = W .sides;
-                    quotients = W .quotients;
-                    remainders = W .remainders ∙ ap (λ (y : ℕ). y / 2) (sym r-long);
+                          remainders = W .remainders ∙ ap (λ (y : ℕ). y / 2) (sym r-long);
                     within = H .within;
                     quotient-within = W .quotient-within;
                     remainder-within = omega (arith, place, ap (λ (y : ℕ). y / 2) r-long);

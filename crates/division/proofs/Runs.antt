@@ -1,26 +1,23 @@
--- The whole walk on words: how it starts, goes on and ends.
+-- The whole walk on words: how it starts, and when nothing remains.
 --
 --   steps-enough           there are more steps than words
 --   zero-words             a cleared array has only zero words
 --   divisor-terms          a divisor is its first term and the later ones
 --   rest-none              nothing remains where no key does
 --   walk-starts            over cleared arrays the walk starts with the whole dividend
---   Running, runs-on, runs-ended, runs-stopped     the loop: what holds before each step, and its two ways out
-use Prim.Native.Nat.{ℕ, suc, _+_, _-_, _*_, _/_, _^_, _<_, _≤_, max}
+use Prim.Native.Nat.{ℕ, suc, _+_, _-_, _*_, _^_, _<_, _≤_, max}
 use mathlib.Core.Path.{_≡_, sym, _∙_, ap, subst}
 use mathlib.Core.List.{List, [], _∷_, _++_, append-nil}
 use mathlib.Core.Logic.{inl}
 use native.Mathlib.Nat.{le-max-left, le-max-right, max-le, sub-zero}
 use native.Mathlib.Decide.{decLt}
 use native.Mathlib.Omega.{arith}
-use lib.ListN.{length, getD, replicate, getD-replicate, length-replicate, List·getD-eq-default}
-use Rattle.algebra.specs.Monomials.{Letters, Numbers}
-use Rattle.algebra.specs.Orders.{Lex, Rising}
+use lib.ListN.{getD, replicate, getD-replicate, length-replicate, List·getD-eq-default}
+use Rattle.algebra.specs.Monomials.{Numbers}
+use Rattle.algebra.specs.Orders.{Rising}
 use Rattle.algebra.specs.Polynomials.{Poly, negated, sorted, Reduced}
-use Rattle.algebra.specs.Walk.{Walked, stopped}
 use Rattle.algebra.proofs.NormalForm.{Small}
 use Rattle.algebra.proofs.Sorted.{sorted-self}
-use Rattle.algebra.proofs.Clauses.{joined, walk-ends}
 use Rattle.monomial.specs.Layout.{base}
 use Rattle.poly.specs.Words.{records, wordAt, termAt, terms, span, polyOf}
 use Rattle.poly.proofs.Readings.{decodedPoly, poly-decoded, span-monomials, span-normal}
@@ -28,9 +25,8 @@ use Rattle.ring.specs.Tree.{Live}
 use Rattle.ring.proofs.Planting.{left-none}
 use Rattle.ring.proofs.Bursts.{words-small}
 use Rattle.division.specs.Calls.{steps, walkBy}
-use Rattle.division.specs.Walking.{keyAt, rest, seen, judgesOf, Ready, whole, walkOn, Walking, Stepped, Ran}
+use Rattle.division.specs.Walking.{keyAt, rest, seen, judgesOf, Ready, Walking}
 use Rattle.division.specs.declared.plan.Plan.{Plan}
-use Rattle.division.specs.declared.steps.State.{State}
 use Rattle.division.proofs.Seen.{Monomial}
 use Rattle.division.proofs.Greatest.{key-here, key-beyond}
 
@@ -58,7 +54,7 @@ reduced-small : (p : ℕ) (f : Poly Numbers) → Reduced p f → Small p f
 reduced-small p [] r = tt
 reduced-small p (u ∷ f) r = (r .1, reduced-small p f (r .2))
 
-module _ (p : ℕ) (f g : List ℕ) (plan : Plan) (R : Ready p f g plan) (n m k : ℕ) (room : plan .quotients ≡ records (replicate {A = ℕ} n 0)) (other : plan .remainders ≡ records (replicate {A = ℕ} m 0)) (few : records (replicate {A = ℕ} n 0) < 2 ^ 32) (long : 4 * records (replicate {A = ℕ} n 0) ≤ k) where
+module _ (p : ℕ) (f g : List ℕ) (plan : Plan) (R : Ready p f g plan) (n m k : ℕ) (other : plan .remainders ≡ records (replicate {A = ℕ} m 0)) (few : records (replicate {A = ℕ} n 0) < 2 ^ 32) (long : 4 * records (replicate {A = ℕ} n 0) ≤ k) where
   abbrev q : List ℕ
   q = replicate n 0
 
@@ -106,7 +102,6 @@ module _ (p : ℕ) (f g : List ℕ) (plan : Plan) (R : Ready p f g plan) (n m k 
               cols-numbers = λ x b. R .divisor .numbers x b .1;
               few = (few, R .few);
             };
-        quotients = room;
         remainders = other;
         within = omega arith;
         quotient-within = omega arith;
@@ -120,57 +115,3 @@ module _ (p : ℕ) (f g : List ℕ) (plan : Plan) (R : Ready p f g plan) (n m k 
         enough = max-le (omega (arith, first-key, steps-enough)) (omega (arith, zero-words k 2));
         walked = λ d. walkBy p (judgesOf f g plan) (dividend d) (divisor-terms g (R .some) d);
       }
-
--- the loop, before each step
-pub record Running (p : ℕ) (f g : List ℕ) (plan : Plan) (q₀ r₀ w₀ q r w : List ℕ) (s : State) (k : ℕ) : Type 0 where
-  pub quotient-long : length q ≡ length q₀
-  pub remainder-long : length r ≡ length r₀
-  pub work-long : length w ≡ length w₀
-  pub goes : s .reply ≡ 0
-  pub top : k ≡ max (keyAt f (s .next)) (wordAt w 1)
-  pub walking : Walking p f g plan q r w (s .next) (s .quotient) (s .remainder)
-
-module _ (p : ℕ) (f g : List ℕ) (plan : Plan) (q₀ r₀ w₀ q r w : List ℕ) (s : State) (k : ℕ) (L : Running p f g plan q₀ r₀ w₀ q r w s k) where
-  pub runs-ended : k ≤ 0 → Ran p f g plan q₀ r₀ w₀ q r w s
-  runs-ended z =
-      let W = L .walking in
-      let i = s .next in
-      let none : rest p f g q w i ≡ [] = rest-none p f g q w i (W .live) (omega (arith, L .top)) in
-      let done : whole p f g plan ≡ joined (decodedPoly base (span q 0 (s .quotient))) (decodedPoly base (span r 0 (s .remainder))) (stopped 0 []) = W .walked ∙ ap (joined (decodedPoly base (span q 0 (s .quotient))) (decodedPoly base (span r 0 (s .remainder)))) (ap (λ (h : Poly Numbers). walkOn p f g plan (W .fuel) (s .quotient) (s .remainder) (seen p h)) none ∙ walk-ends (Lex 4) p (termAt base g 0) (terms base g 1 (records g - 1)) (judgesOf f g plan) (W .fuel) (s .quotient) (s .remainder)) in
-      record {
-        quotient-long = L .quotient-long;
-        remainder-long = L .remainder-long;
-        work-long = L .work-long;
-        replies = ap (λ (x : Walked (Letters 4)). x .reply) done ∙ sym (L .goes);
-        quotient-within = λ x. omega (arith, W .quotient-within, ap (λ (y : ℕ). y / 2) (L .quotient-long));
-        remainder-within = λ x. omega (arith, W .remainder-within, ap (λ (y : ℕ). y / 2) (L .remainder-long));
-        quotient-monomials = λ x. W .quotient-monomials;
-        remainder-monomials = λ x. W .remainder-monomials;
-        ends = λ x. done;
-      }
-
-  module _ (q′ r′ w′ : List ℕ) (t : State) (T : Stepped p f g plan q r w k q′ r′ w′ t) where
-    pub runs-stopped : (t .reply ≡ 0 → ⊥) → Ran p f g plan q₀ r₀ w₀ q′ r′ w′ t
-    runs-stopped n =
-        record {
-          quotient-long = T .quotient-long ∙ L .quotient-long;
-          remainder-long = T .remainder-long ∙ L .remainder-long;
-          work-long = T .work-long ∙ L .work-long;
-          replies = T .stops n;
-          quotient-within = λ z. absurd (n z);
-          remainder-within = λ z. absurd (n z);
-          quotient-monomials = λ z. absurd (n z);
-          remainder-monomials = λ z. absurd (n z);
-          ends = λ z. absurd (n z);
-        }
-
-    pub runs-on : t .reply ≡ 0 → (k′ : ℕ) → k′ ≡ max (keyAt f (t .next)) (wordAt w′ 1) → Running p f g plan q₀ r₀ w₀ q′ r′ w′ t k′
-    runs-on z k′ e =
-        record {
-          quotient-long = T .quotient-long ∙ L .quotient-long;
-          remainder-long = T .remainder-long ∙ L .remainder-long;
-          work-long = T .work-long ∙ L .work-long;
-          goes = z;
-          top = e;
-          walking = T .goes-on z;
-        }

@@ -1,7 +1,7 @@
 -- The walk on words, step by step: what the engine's own functions promise one another. No caller of a public function meets it.
 --
--- Quotient terms are the rows of a tree, the divisor's terms its columns, from the second on; the quotient room itself is the
--- slice of rows, zero records where nothing is written yet. A key is a monomial word + 1, and 0 where there is none.
+-- Quotient terms are the rows of a tree, the divisor's terms its columns, from the second on; the front of the quotient room is
+-- itself the slice of rows, zero records where nothing is written yet, and grows with the quotient. A key is a monomial word + 1, and 0 where there is none.
 --
 --   keyAt f i            the key of record i, 0 behind the last
 --   rest p f g q w i     what remains: the dividend's terms from record i on, less the products for which the tree waits
@@ -10,15 +10,17 @@
 --   quotientReply        what the judge of quotient terms says of a word
 --   Ready                all that a walk asks of its inputs, and what was computed once
 --   Walking              a walk that has come to record i of the dividend, with n quotient and j remainder terms written
+--   Fresh                cleared rooms and work, in which a walk may start
 --   Headed               the greatest monomial was taken out of what remains
 --   RowPut               a quotient term was written, and its products wait in the tree
---   Stepped, Ran         what a step and the whole loop promise
+--   Stepped, Enough, Ran     what a step, the growing tree and the whole loop promise
 use Prim.Native.Nat.{ℕ, _+_, _-_, _*_, _^_, _<_, _≤_, max}
 use mathlib.Core.Path.{_≡_}
 use mathlib.Core.Bool.{Bool, true, false}
 use mathlib.Core.List.{List, [], _∷_, _++_}
+use mathlib.Core.Logic.{_⊎_}
 use lib.Dec.{ltb}
-use lib.ListN.{length, set}
+use lib.ListN.{length, take, set}
 use Rattle.algebra.specs.Residues.{Prime, inverse, pick}
 use Rattle.algebra.specs.Monomials.{Letters, Numbers}
 use Rattle.algebra.specs.Orders.{Lex, Rising}
@@ -31,7 +33,7 @@ use Rattle.monomial.specs.Layout.{base, isMonomial, dividesOf, fits, wordOf}
 use Rattle.poly.specs.Words.{records, wordAt, numberAt, termAt, terms, span, polyOf}
 use Rattle.poly.specs.Valid.{Valid}
 use Rattle.poly.proofs.Readings.{decodedPoly}
-use Rattle.ring.specs.Tree.{left, Live, Sides}
+use Rattle.ring.specs.Tree.{left, Live, Sides, Grown}
 use Rattle.division.specs.Calls.{maxima, unlessFull, divisionJudges, testJudges, walkBy}
 use Rattle.division.specs.declared.plan.Plan.{Plan}
 use Rattle.division.specs.declared.steps.State.{State}
@@ -85,7 +87,6 @@ walkOn p f g plan n i j h = walk (Lex 4) p (termAt base g 0) (terms base g 1 (re
 pub record Walking (p : ℕ) (f g : List ℕ) (plan : Plan) (q r w : List ℕ) (i n j : ℕ) : Type 0 where
   pub live : Live q g w
   pub sides : Sides q g p
-  pub quotients : plan .quotients ≡ records q
   pub remainders : plan .remainders ≡ records r
   pub within : i ≤ records f
   pub quotient-within : n ≤ records q
@@ -98,6 +99,13 @@ pub record Walking (p : ℕ) (f g : List ℕ) (plan : Plan) (q r w : List ℕ) (
   pub fuel : ℕ
   pub enough : max (keyAt f i) (wordAt w 1) ≤ fuel
   pub walked : whole p f g plan ≡ joined (decodedPoly base (span q 0 n)) (decodedPoly base (span r 0 j)) (walkOn p f g plan fuel n j (seen p (rest p f g q w i)))
+
+-- nothing is done yet: a walk may start on a tree with any number of rows, the first records of the room
+pub record Fresh (p : ℕ) (f g : List ℕ) (plan : Plan) (q r w : List ℕ) : Type 0 where
+  pub quotients : plan .quotients ≡ records q
+  pub long : 4 * records q ≤ length w
+  pub few : records q < 2 ^ 32
+  pub starts : (n : ℕ) → n ≤ records q → Walking p f g plan (take (2 * n) q) r w 0 0 0
 
 -- what remains is the monomial of key k, c times, and the rest from record i′ on, with no key as great
 pub record Headed (p : ℕ) (f g q w : List ℕ) (i k : ℕ) (w′ : List ℕ) (i′ c : ℕ) : Type 0 where
@@ -129,6 +137,13 @@ pub record Stepped (p : ℕ) (f g : List ℕ) (plan : Plan) (q r w : List ℕ) (
   pub stops : (s .reply ≡ 0 → ⊥) → whole p f g plan .reply ≡ s .reply
   pub goes-on : s .reply ≡ 0 → Walking p f g plan q′ r′ w′ (s .next) (s .quotient) (s .remainder)
   pub lower : s .reply ≡ 0 → max (keyAt f (s .next)) (wordAt w′ 1) < k
+
+-- A tree of n rows has m rows afterwards, one that is not taken among them as far as the room goes.
+pub record Enough (n taken room : ℕ) (w w′ : List ℕ) (m : ℕ) : Type 0 where
+  pub more : n ≤ m
+  pub within : m ≤ room
+  pub free : taken ≤ n → taken < room → taken < m
+  pub grown : ((m ≡ n) × (w′ ≡ w)) ⊎ ((0 < n) × Grown n m w w′)
 
 pub record Ran (p : ℕ) (f g : List ℕ) (plan : Plan) (q r w q′ r′ w′ : List ℕ) (s : State) : Type 0 where
   pub quotient-long : length q′ ≡ length q

@@ -31,7 +31,7 @@ pub fn step(
     s: State,
     k: u64,
 ) -> State
-    requires { ⌜ (0 < k) × (k ≡ max (keyAt (now f) (s .next)) (wordAt (now work) 1)) ⌝ }
+    requires { ⌜ (0 < k) × (k ≡ max (keyAt (now f) (s .next)) (wordAt (now work) 1)) × (s .quotient < plan .quotients → s .quotient < records (now q)) ⌝ }
     requires { ⌜ Ready p (now f) (now g) plan ⌝ }
     requires { ⌜ Walking p (now f) (now g) plan (now q) (now r) (now work) (s .next) (s .quotient) (s .remainder) ⌝ }
     ensures { λ t. ⌜ Stepped p (now (f .entry)) (now (g .entry)) plan (now (q .entry)) (now (r .entry)) (now (work .entry)) k (now (q .exit)) (now (r .exit)) (now (work .exit)) t ⌝ }

@@ -1,9 +1,17 @@
 // The walk: one step after another, until nothing remains or a judge stops it.
-ghost use Rattle.division.specs.Walking.{Ready, Walking, Ran};
+ghost use mathlib.Core.Path.{_≡_};
+ghost use mathlib.Core.Logic.{_⊎_};
+ghost use Prim.Native.Nat.{_*_, _<_, _≤_};
+ghost use lib.ListN.{length};
+ghost use Rattle.division.specs.Walking.{Ready, Fresh, Enough, Ran};
 use crate::heads::greatest_key;
 use crate::plan::Plan;
 use crate::steps::State;
 use crate::steps::step;
+use ring::growth::grow;
+
+// The rows of a new tree. It grows with the quotient, so that a room much longer than the quotient costs nothing.
+const FIRST_ROWS: usize = 16;
 
 pub fn run(
     p: u64,
@@ -15,9 +23,11 @@ pub fn run(
     plan: Plan,
 ) -> State
     requires { ⌜ Ready p (now f) (now g) plan ⌝ }
-    requires { ⌜ Walking p (now f) (now g) plan (now q) (now r) (now work) 0 0 0 ⌝ }
+    requires { ⌜ Fresh p (now f) (now g) plan (now q) (now r) (now work) ⌝ }
     ensures { λ s. ⌜ Ran p (now (f .entry)) (now (g .entry)) plan (now (q .entry)) (now (r .entry)) (now (work .entry)) (now (q .exit)) (now (r .exit)) (now (work .exit)) s ⌝ }
 {
+    let room = q.len() / 2;
+    let mut rows = least(FIRST_ROWS, room);
     let mut s = State {
         next: 0,
         quotient: 0,
@@ -26,11 +36,34 @@ pub fn run(
     };
     let mut k = greatest_key(f, work, 0);
     while 0 < k {
-        s = step(p, f, g, q, r, work, plan, s, k);
+        rows = enough_rows(work, rows, s.quotient, room);
+        s = step(p, f, g, &mut q[..2 * rows], r, work, plan, s, k);
         if s.reply != 0 {
             return s;
         }
         k = greatest_key(f, work, s.next);
     }
     s
+}
+
+// The rows of the tree, which grows where all of them are taken and the room has more.
+fn enough_rows(work: &mut [u64], rows: usize, taken: usize, room: usize) -> usize
+    requires { ⌜ (rows ≤ room) × (0 < room → 0 < rows) × (4 * room ≤ length (now work)) ⌝ }
+    ensures { λ r. ⌜ Enough rows taken room (now (work .entry)) (now (work .exit)) r ⌝ }
+{
+    if taken < rows {
+        return rows;
+    }
+    if rows == room {
+        return rows;
+    }
+    let more = least(2 * rows, room);
+    grow(work, rows, more);
+    more
+}
+
+fn least(a: usize, b: usize) -> usize
+    ensures { λ r. ⌜ (r ≤ a) × (r ≤ b) × ((r ≡ a) ⊎ (r ≡ b)) ⌝ }
+{
+    if a < b { a } else { b }
 }
