@@ -64,13 +64,13 @@ module _ {K : Monomials} (O : Order K) (p : ℕ) (lead : Term K) (later : Poly K
         quotient-stops = λ n i j u f d r h e a b. stops-here i j u f (suc r) h (inl (d, sym e));
         quotient-passes =
             λ n i j u f d w h e k a b.
-                let s = k a b in
-                record { at = s .at; below = s .below; left = s .left; number = s .number; judged = subst (λ (c : ℕ). Judged c (j + length (w .remainder)) (s .at) (w .reply)) (next i (length (w .quotient))) (s .judged) };
+            let s = k a b in
+            record { at = s .at; below = s .below; left = s .left; number = s .number; judged = subst (λ (c : ℕ). Judged c (j + length (w .remainder)) (s .at) (w .reply)) (next i (length (w .quotient))) (s .judged) };
         remainder-stops = λ n i j u f r d h e a b. stops-here i j u f (suc r) h (inr (d, sym e));
         remainder-passes =
             λ n i j u f w d h e k a b.
-                let s = k a b in
-                record { at = s .at; below = s .below; left = s .left; number = s .number; judged = subst (λ (c : ℕ). Judged (i + length (w .quotient)) c (s .at) (w .reply)) (next j (length (w .remainder))) (s .judged) };
+            let s = k a b in
+            record { at = s .at; below = s .below; left = s .left; number = s .number; judged = subst (λ (c : ℕ). Judged (i + length (w .quotient)) c (s .at) (w .reply)) (next j (length (w .remainder))) (s .judged) };
       }
     where
       next : (i n : ℕ) → suc i + n ≡ i + suc n
@@ -171,12 +171,12 @@ module _ {K : Monomials} (O : Order K) {p : ℕ} (P : Prime p) (lead : Term K) (
         quotient-stops = λ n i j u f d r h e fall a z. H .answers i (quotientTerm p lead (d .0) u) .0 (e ∙ z);
         quotient-passes =
             λ n i j u f d w h e k fall a.
-                let t = quotientTerm p lead (d .0) u in
-                k (sorted-falling O p (prime-positive P) (f ++ negated p (times t later)))
-                (lower u (remains O p later t f) (a .0 .0) (remains-good O P lead later J (H .Good) (H .passes) i t f e (good (suc n) f (a .1)))
-                (remains-below O P lead later ng u t f (K .mul-comm (t .mon) (lead .mon) ∙ d .1) (fall .0))
-                n
-                (a .0 .1));
+            let t = quotientTerm p lead (d .0) u in
+            k (sorted-falling O p (prime-positive P) (f ++ negated p (times t later)))
+            (lower u (remains O p later t f) (a .0 .0) (remains-good O P lead later J (H .Good) (H .passes) i t f e (good (suc n) f (a .1)))
+            (remains-below O P lead later ng u t f (K .mul-comm (t .mon) (lead .mon) ∙ d .1) (fall .0))
+            n
+            (a .0 .1));
         remainder-stops = λ n i j u f r d h e fall a z. H .answers j u .1 (e ∙ z);
         remainder-passes = λ n i j u f w d h e k fall a. k (fall .1) (tail-under n u f fall a);
       }

@@ -204,9 +204,9 @@ module _ {K : Monomials} (O : Order K) {p : ℕ} (P : Prime p) (lead : Term K) (
           quotient-stops = λ n i j u f d r h e fall small. stops (suc r) (u ∷ f) fall;
           quotient-passes =
               λ n i j u f d w h e k fall small.
-                  let t = quotientTerm p lead (d .0) u in
-                  divided u t f w fall h (small .0) (d .1) refl
-                  (k (sorted-falling O p pos (f ++ negated p (times t later))) (sorted-small O p pos (f ++ negated p (times t later))));
+              let t = quotientTerm p lead (d .0) u in
+              divided u t f w fall h (small .0) (d .1) refl
+              (k (sorted-falling O p pos (f ++ negated p (times t later))) (sorted-small O p pos (f ++ negated p (times t later))));
           remainder-stops = λ n i j u f r d h e fall small. stops (suc r) (u ∷ f) fall;
           remainder-passes = λ n i j u f w d h e k fall small. moved u f w fall h (small .0) d (k (fall .1) (small .1));
         }

@@ -331,7 +331,7 @@ module _ (p : ℕ) (f g : List ℕ) (plan : Plan) (R : Ready p f g plan) (q r w 
                   λ x. record {
                     live = H .live;
                     sides = W .sides;
-                          remainders = W .remainders ∙ ap (λ (y : ℕ). y / 2) (sym r-long);
+                    remainders = W .remainders ∙ ap (λ (y : ℕ). y / 2) (sym r-long);
                     within = H .within;
                     quotient-within = W .quotient-within;
                     remainder-within = omega (arith, place, ap (λ (y : ℕ). y / 2) r-long);

@@ -56,9 +56,9 @@ overAt m b v = ltb (b v) (exponent 4 v m)
 some-over : (m : Letters 4 .Mon) (b : ℕ → ℕ) → (((v : ℕ) → exponent 4 v m ≤ b v) → ⊥) → Over m b
 some-over m b n =
     let v = first (overAt m b) 0 4 in
-    elim (decLt v 4)
-    [ yes l ↦ record { letter = v; one-of-four = l; over = ltb-true (b v) _ (first-hit (overAt m b) 0 4 l) }
-    | no l ↦ absurd (n (every-letter m b (λ k h. ltb-false (b k) _ (first-miss (overAt m b) 0 4 {j = k} (omega arith) (omega arith)))))
+    elim (decLt v 4) [
+      | yes l ↦ record { letter = v; one-of-four = l; over = ltb-true (b v) _ (first-hit (overAt m b) 0 4 l) }
+      | no l ↦ absurd (n (every-letter m b (λ k h. ltb-false (b k) _ (first-miss (overAt m b) 0 4 {j = k} (omega arith) (omega arith)))))
     ]
 
 not-over : (m : Letters 4 .Mon) (b : ℕ → ℕ) → ((v : ℕ) → exponent 4 v m ≤ b v) → Over m b → ⊥
@@ -225,16 +225,16 @@ module _ {p : ℕ} (P : Prime p) (lead : Term (Letters 4)) (later : Poly (Letter
         due u i j n z (inr x) = let k = judged-room j r 11 n z (x .1) in inr (inr (k .0, (λ m e. x .0 (m, e)), k .1))
 
     division-exact : (h : Poly (Letters 4)) → Equal p f (mul h divisor) → ((division .reply ≡ 0) × (division .quotient ≡ norm (Lex 4) p h) × (division .remainder ≡ [])) ⊎ ((division .reply ≡ 10) × (q < length (norm (Lex 4) p h)))
-    division-exact h d = elim (ℕ-discrete (division .reply) 0)
-        [ yes e ↦ inl (e, exact-done (Lex 4) P lead later ng divide steps f (nf .falling) small h d e, exact-none (Lex 4) P lead later ng divide steps f (nf .falling) small h d)
-        | no z ↦
-            let t = refused divide division-ends h d z in
-            let m = Letters 4 .mul (t .0 .mon) (maxima divisor) in
-            let room = refused-room divide division-ends h d (t .0) (t .1) (t .2) in
-            let good : fits 16 4 m ≡ true = fits-letters 16 4 m .1 (every-letter m (λ v. 32767) (λ v l. omega (arith, room v l, weights v))) in
-            let x = full m good (division .reply) (length (division .quotient)) z (t .3) in
-            inr (x .0, omega (arith, x .1, longer divide division-ends h (t .0) (t .1) (t .2)))
-        ]
+    division-exact h d = elim (ℕ-discrete (division .reply) 0) [
+      | yes e ↦ inl (e, exact-done (Lex 4) P lead later ng divide steps f (nf .falling) small h d e, exact-none (Lex 4) P lead later ng divide steps f (nf .falling) small h d)
+      | no z ↦
+          let t = refused divide division-ends h d z in
+          let m = Letters 4 .mul (t .0 .mon) (maxima divisor) in
+          let room = refused-room divide division-ends h d (t .0) (t .1) (t .2) in
+          let good : fits 16 4 m ≡ true = fits-letters 16 4 m .1 (every-letter m (λ v. 32767) (λ v l. omega (arith, room v l, weights v))) in
+          let x = full m good (division .reply) (length (division .quotient)) z (t .3) in
+          inr (x .0, omega (arith, x .1, longer divide division-ends h (t .0) (t .1) (t .2)))
+    ]
       where
         full : (m : Letters 4 .Mon) → fits 16 4 m ≡ true → (n i : ℕ) → (n ≡ 0 → ⊥) → n ≡ pick (fits 16 4 m) (unlessFull i q 10) 9 → (n ≡ 10) × (q ≤ i)
         full m good n i z e = judged-room i q 10 n z (e ∙ ap (λ (b : Bool). pick b (unlessFull i q 10) 9) good)

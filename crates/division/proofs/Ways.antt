@@ -42,15 +42,15 @@ module _ {A : Type 0} {report : A → Report} {rules : List Report} {reply : ℕ
     to-end : due .number ≡ 0 → reply ≡ 0 → o ≡ finished → Way
 
   way : Way
-  way = elim (ℕ-discrete (due .number) 0)
-      [ no n ↦ by-rule n (E .ended ∙ ap (λ (b : Bool). pick b (pick (eqb reply 0) finished stopped) refused) (ne-eqb (due .number) 0 n))
-      | yes z ↦
-          let on : o ≡ pick (eqb reply 0) finished stopped = E .ended ∙ ap (λ (b : Bool). pick b (pick (eqb reply 0) finished stopped) refused) (eq-eqb (due .number) 0 z) in
-          elim (ℕ-discrete reply 0)
-          [ no n ↦ by-walk z n (on ∙ ap (λ (b : Bool). pick b finished stopped) (ne-eqb reply 0 n))
+  way = elim (ℕ-discrete (due .number) 0) [
+    | no n ↦ by-rule n (E .ended ∙ ap (λ (b : Bool). pick b (pick (eqb reply 0) finished stopped) refused) (ne-eqb (due .number) 0 n))
+    | yes z ↦
+        let on : o ≡ pick (eqb reply 0) finished stopped = E .ended ∙ ap (λ (b : Bool). pick b (pick (eqb reply 0) finished stopped) refused) (eq-eqb (due .number) 0 z) in
+        elim (ℕ-discrete reply 0) [
+          | no n ↦ by-walk z n (on ∙ ap (λ (b : Bool). pick b finished stopped) (ne-eqb reply 0 n))
           | yes d ↦ to-end z d (on ∙ ap (λ (b : Bool). pick b finished stopped) (eq-eqb reply 0 d))
-          ]
-      ]
+        ]
+  ]
 
   abbrev number : ℕ
   number = report o .number
