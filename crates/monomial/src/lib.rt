@@ -10,6 +10,8 @@ const GUARDS: u64 = 0x8000800080008000;
 // The largest exponent.
 const LARGEST: u64 = 32767;
 
+// What unpacking answers: reply 0 and the exponents of x, y, z and t, or the number of a refusal and zeros.
+#[repr(C)]
 pub struct Exponents {
     pub number: u64,
     pub exponents: [u64; 4],
