@@ -1,0 +1,2 @@
+-- Every exported function has one outcome.
+pub mod Determined
