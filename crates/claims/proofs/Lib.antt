@@ -1,0 +1,2 @@
+-- The claims shown.
+pub mod Sheet

@@ -1,0 +1,2 @@
+-- What is claimed of the engine as a whole.
+pub mod Sheet
