@@ -61,17 +61,17 @@ abbrev pub minus : ℕ → ℤ
 minus n = negℤ (pos n)
 
 pub data Row : Type 0 where
-  product : (p : ℕ) (a b : Poly (Letters 4)) (room work : List ℕ) → Outcome → Row
-  division : (p : ℕ) (f g : Poly (Letters 4)) (q r work : List ℕ) → Divided → Row
-  divideTest : (p : ℕ) (f g : Poly (Letters 4)) (q work : List ℕ) → Outcome → Row
+  product : (p : ℕ) (a b room work : List ℕ) → Outcome → Row
+  division : (p : ℕ) (f g q r work : List ℕ) → Divided → Row
+  divideTest : (p : ℕ) (f g q work : List ℕ) → Outcome → Row
   balanced : (p c : ℕ) → Balance → Row
 
 -- When a row is right
 
 abbrev pub Holds : Row → Type 0
-Holds (product p a b room work leaves) = productOf p (words a) (words b) room work ≡ leaves
-Holds (division p f g q r work leaves) = divideOf p (words f) (words g) q r work ≡ leaves
-Holds (divideTest p f g q work leaves) = dividesOf p (words f) (words g) q work ≡ leaves
+Holds (product p a b room work leaves) = productOf p a b room work ≡ leaves
+Holds (division p f g q r work leaves) = divideOf p f g q r work ≡ leaves
+Holds (divideTest p f g q work leaves) = dividesOf p f g q work ≡ leaves
 Holds (balanced p c answers) = balancedOf p c ≡ answers
 
 abbrev pub AllHold : List Row → Type 0
@@ -109,105 +109,105 @@ abbrev pub sameBalance : Balance → Balance → Bool
 sameBalance a b = eqb (a .number) (b .number) && sameNumber (a .value) (b .value)
 
 abbrev pub right : Row → Bool
-right (product p a b room work leaves) = sameOutcome (productOf p (words a) (words b) room work) leaves
-right (division p f g q r work leaves) = sameDivided (divideOf p (words f) (words g) q r work) leaves
-right (divideTest p f g q work leaves) = sameOutcome (dividesOf p (words f) (words g) q work) leaves
+right (product p a b room work leaves) = sameOutcome (productOf p a b room work) leaves
+right (division p f g q r work leaves) = sameDivided (divideOf p f g q r work) leaves
+right (divideTest p f g q work leaves) = sameOutcome (dividesOf p f g q work) leaves
 right (balanced p c answers) = sameBalance (balancedOf p c) answers
 
 abbrev pub allRight : List Row → Bool
 allRight [] = true
 allRight (row ∷ rest) = right row && allRight rest
 
--- The polynomials of the sheet, each with the number of its row: a, b and ab are factors and product; f, g, q and r are dividend,
+-- The polynomials of the sheet as words, each with the number of its row: a, b and ab are factors and product; f, g, q and r are dividend,
 -- divisor, quotient and remainder.
 
-abbrev pub zeroPoly : Poly (Letters 4)
+abbrev pub zeroPoly : List ℕ
 zeroPoly = []
 
-abbrev pub xPoly : Poly (Letters 4)
-xPoly = 1 x^ 1 ∷ []
+abbrev pub xPoly : List ℕ
+xPoly = words (1 x^ 1 ∷ [])
 
-abbrev pub a₁ : Poly (Letters 4)
-a₁ = 2 x^ 4 ∷ 3 x^ 3 ∷ 4 x^ 1 ∷ []
+abbrev pub a₁ : List ℕ
+a₁ = words (2 x^ 4 ∷ 3 x^ 3 ∷ 4 x^ 1 ∷ [])
 
-abbrev pub b₁ : Poly (Letters 4)
-b₁ = 1 x^ 5 ∷ 5 x^ 3 ∷ 7 x^ 0 ∷ []
+abbrev pub b₁ : List ℕ
+b₁ = words (1 x^ 5 ∷ 5 x^ 3 ∷ 7 x^ 0 ∷ [])
 
-abbrev pub ab₁ : Poly (Letters 4)
-ab₁ = 2 x^ 9 ∷ 3 x^ 8 ∷ 10 x^ 7 ∷ 19 x^ 6 ∷ 34 x^ 4 ∷ 21 x^ 3 ∷ 28 x^ 1 ∷ []
+abbrev pub ab₁ : List ℕ
+ab₁ = words (2 x^ 9 ∷ 3 x^ 8 ∷ 10 x^ 7 ∷ 19 x^ 6 ∷ 34 x^ 4 ∷ 21 x^ 3 ∷ 28 x^ 1 ∷ [])
 
-abbrev pub f₃ : Poly (Letters 4)
-f₃ = 1 x^ 2 y^ 1 ∷ 1 x^ 1 y^ 2 ∷ 1 x^ 0 y^ 2 ∷ []
+abbrev pub f₃ : List ℕ
+f₃ = words (1 x^ 2 y^ 1 ∷ 1 x^ 1 y^ 2 ∷ 1 x^ 0 y^ 2 ∷ [])
 
-abbrev pub g₃ : Poly (Letters 4)
-g₃ = 1 x^ 1 y^ 1 ∷ 100 x^ 0 ∷ []
+abbrev pub g₃ : List ℕ
+g₃ = words (1 x^ 1 y^ 1 ∷ 100 x^ 0 ∷ [])
 
 -- the whole quotient room, as the sheet gives it
 abbrev pub q₃ : List ℕ
 q₃ = 0x0001000000000000 ∷ 1 ∷ 0x0000000100000000 ∷ 1 ∷ 0 ∷ 0 ∷ []
 
-abbrev pub r₃ : Poly (Letters 4)
-r₃ = 1 x^ 1 ∷ 1 x^ 0 y^ 2 ∷ 1 x^ 0 y^ 1 ∷ []
+abbrev pub r₃ : List ℕ
+r₃ = words (1 x^ 1 ∷ 1 x^ 0 y^ 2 ∷ 1 x^ 0 y^ 1 ∷ [])
 
-abbrev pub a₄ : Poly (Letters 4)
-a₄ = 1 x^ 1 ∷ 1 x^ 0 y^ 1 ∷ []
+abbrev pub a₄ : List ℕ
+a₄ = words (1 x^ 1 ∷ 1 x^ 0 y^ 1 ∷ [])
 
-abbrev pub b₄ : Poly (Letters 4)
-b₄ = 1 x^ 1 ∷ 100 x^ 0 y^ 1 ∷ []
+abbrev pub b₄ : List ℕ
+b₄ = words (1 x^ 1 ∷ 100 x^ 0 y^ 1 ∷ [])
 
-abbrev pub ab₄ : Poly (Letters 4)
-ab₄ = 1 x^ 2 ∷ 100 x^ 0 y^ 2 ∷ []
+abbrev pub ab₄ : List ℕ
+ab₄ = words (1 x^ 2 ∷ 100 x^ 0 y^ 2 ∷ [])
 
-abbrev pub a₅ : Poly (Letters 4)
-a₅ = 1 x^ 1 ∷ 1 x^ 0 ∷ []
+abbrev pub a₅ : List ℕ
+a₅ = words (1 x^ 1 ∷ 1 x^ 0 ∷ [])
 
-abbrev pub aa₅ : Poly (Letters 4)
-aa₅ = 1 x^ 2 ∷ 1 x^ 0 ∷ []
+abbrev pub aa₅ : List ℕ
+aa₅ = words (1 x^ 2 ∷ 1 x^ 0 ∷ [])
 
-abbrev pub a₆ : Poly (Letters 4)
-a₆ = 1 x^ 16383 ∷ []
+abbrev pub a₆ : List ℕ
+a₆ = words (1 x^ 16383 ∷ [])
 
-abbrev pub b₆ : Poly (Letters 4)
-b₆ = 1 x^ 16384 ∷ []
+abbrev pub b₆ : List ℕ
+b₆ = words (1 x^ 16384 ∷ [])
 
-abbrev pub ab₆ : Poly (Letters 4)
-ab₆ = 1 x^ 32767 ∷ []
+abbrev pub ab₆ : List ℕ
+ab₆ = words (1 x^ 32767 ∷ [])
 
-abbrev pub f₇ : Poly (Letters 4)
-f₇ = 1 x^ 2 ∷ []
+abbrev pub f₇ : List ℕ
+f₇ = words (1 x^ 2 ∷ [])
 
-abbrev pub g₇ : Poly (Letters 4)
-g₇ = 1 x^ 1 ∷ 100 x^ 0 y^ 20000 ∷ []
+abbrev pub g₇ : List ℕ
+g₇ = words (1 x^ 1 ∷ 100 x^ 0 y^ 20000 ∷ [])
 
-abbrev pub f₈ : Poly (Letters 4)
-f₈ = 1 x^ 3 ∷ 100 x^ 0 ∷ []
+abbrev pub f₈ : List ℕ
+f₈ = words (1 x^ 3 ∷ 100 x^ 0 ∷ [])
 
-abbrev pub g₈ : Poly (Letters 4)
-g₈ = 1 x^ 1 ∷ 100 x^ 0 ∷ []
+abbrev pub g₈ : List ℕ
+g₈ = words (1 x^ 1 ∷ 100 x^ 0 ∷ [])
 
-abbrev pub q₈ : Poly (Letters 4)
-q₈ = 1 x^ 2 ∷ 1 x^ 1 ∷ 1 x^ 0 ∷ []
+abbrev pub q₈ : List ℕ
+q₈ = words (1 x^ 2 ∷ 1 x^ 1 ∷ 1 x^ 0 ∷ [])
 
-abbrev pub q₁₁ : Poly (Letters 4)
-q₁₁ = 1 x^ 0 ∷ []
+abbrev pub q₁₁ : List ℕ
+q₁₁ = words (1 x^ 0 ∷ [])
 
 -- A room of n terms has 2n words. Rooms and work are lent dirty, work at its least length or longer.
 abbrev pub rows : List Row
 rows =
     -- 1, with a room of 7 terms and with one of 6
-    product 101 a₁ b₁ (dirty 14) (dirty 12) (outcome (report 0 0 0 7 0) (words ab₁) (zeros 12))
+    product 101 a₁ b₁ (dirty 14) (dirty 12) (outcome (report 0 0 0 7 0) ab₁ (zeros 12))
     ∷ product 101 a₁ b₁ (dirty 12) (dirty 15) (outcome (report 10 0 0 0 0) (zeros 12) (zeros 15))
     -- 2
-    ∷ division 101 ab₁ a₁ (dirty 6) (dirty 4) (dirty 12) (divided (report 0 0 0 3 0) (words b₁) (zeros 4) (zeros 12))
+    ∷ division 101 ab₁ a₁ (dirty 6) (dirty 4) (dirty 12) (divided (report 0 0 0 3 0) b₁ (zeros 4) (zeros 12))
     -- 3
-    ∷ division 101 f₃ g₃ (dirty 6) (dirty 8) (dirty 12) (divided (report 0 0 0 2 3) q₃ (words r₃ ++ zeros 2) (zeros 12))
+    ∷ division 101 f₃ g₃ (dirty 6) (dirty 8) (dirty 12) (divided (report 0 0 0 2 3) q₃ (r₃ ++ zeros 2) (zeros 12))
     ∷ divideTest 101 f₃ g₃ (dirty 6) (dirty 13) (outcome (report 12 0 0 0 0) (zeros 6) (zeros 13))
     -- 4
-    ∷ product 101 a₄ b₄ (dirty 4) (dirty 8) (outcome (report 0 0 0 2 0) (words ab₄) (zeros 8))
+    ∷ product 101 a₄ b₄ (dirty 4) (dirty 8) (outcome (report 0 0 0 2 0) ab₄ (zeros 8))
     -- 5
-    ∷ product 2 a₅ a₅ (dirty 6) (dirty 8) (outcome (report 0 0 0 2 0) (words aa₅ ++ zeros 2) (zeros 8))
+    ∷ product 2 a₅ a₅ (dirty 6) (dirty 8) (outcome (report 0 0 0 2 0) (aa₅ ++ zeros 2) (zeros 8))
     -- 6
-    ∷ product 101 a₆ b₆ (dirty 2) (dirty 4) (outcome (report 0 0 0 1 0) (words ab₆) (zeros 4))
+    ∷ product 101 a₆ b₆ (dirty 2) (dirty 4) (outcome (report 0 0 0 1 0) ab₆ (zeros 4))
     ∷ product 101 ab₆ xPoly (dirty 2) (dirty 4) (outcome (report 9 0 0 0 0) (zeros 2) (zeros 4))
     -- 7, with a quotient room of 8 terms and with one of 1; an empty room is full at the first quotient term, so 9 is met at the second
     ∷ division 101 f₇ g₇ (dirty 16) (dirty 4) (dirty 32) (divided (report 9 0 0 0 0) (zeros 16) (zeros 4) (zeros 32))
@@ -215,15 +215,15 @@ rows =
     ∷ division 101 f₇ g₇ (dirty 0) (dirty 4) (dirty 0) (divided (report 10 0 0 0 0) (zeros 0) (zeros 4) (zeros 0))
     ∷ divideTest 101 f₇ g₇ (dirty 16) (dirty 32) (outcome (report 12 0 0 0 0) (zeros 16) (zeros 32))
     -- 8, with a room of 3 terms and with one of 2
-    ∷ division 101 f₈ g₈ (dirty 6) (dirty 2) (dirty 12) (divided (report 0 0 0 3 0) (words q₈) (zeros 2) (zeros 12))
-    ∷ divideTest 101 f₈ g₈ (dirty 6) (dirty 12) (outcome (report 0 0 0 3 0) (words q₈) (zeros 12))
+    ∷ division 101 f₈ g₈ (dirty 6) (dirty 2) (dirty 12) (divided (report 0 0 0 3 0) q₈ (zeros 2) (zeros 12))
+    ∷ divideTest 101 f₈ g₈ (dirty 6) (dirty 12) (outcome (report 0 0 0 3 0) q₈ (zeros 12))
     ∷ division 101 f₈ g₈ (dirty 4) (dirty 2) (dirty 8) (divided (report 10 0 0 0 0) (zeros 4) (zeros 2) (zeros 8))
     ∷ divideTest 101 f₈ g₈ (dirty 4) (dirty 9) (outcome (report 10 0 0 0 0) (zeros 4) (zeros 9))
     -- 10; reply 7 changes no word
     ∷ division 101 zeroPoly xPoly (dirty 0) (dirty 0) (dirty 0) (divided (report 0 0 0 0 0) (zeros 0) (zeros 0) (zeros 0))
     ∷ division 101 xPoly zeroPoly (dirty 2) (dirty 2) (dirty 4) (divided (report 7 2 0 0 0) (dirty 2) (dirty 2) (dirty 4))
     -- 11
-    ∷ division 101 a₁ a₁ (dirty 2) (dirty 2) (dirty 4) (divided (report 0 0 0 1 0) (words q₁₁) (zeros 2) (zeros 4))
+    ∷ division 101 a₁ a₁ (dirty 2) (dirty 2) (dirty 4) (divided (report 0 0 0 1 0) q₁₁ (zeros 2) (zeros 4))
     -- 13
     ∷ balanced 101 50 (balance 0 (pos 50))
     ∷ balanced 101 51 (balance 0 (minus 50))
