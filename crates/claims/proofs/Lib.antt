@@ -1,2 +1,3 @@
 -- The claims shown.
 pub mod Sheet
+pub mod Demand3

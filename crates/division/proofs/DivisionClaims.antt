@@ -6,6 +6,7 @@
 --   divide-unchanged     after 1 to 8 the rooms and the work are as they were
 --   divide-cleared       9, 10 and 11 carry no operand, no term and no count; rooms and work are all zero
 --   divide-written       with 0 the work is all zero, the counts are those of the polynomials in the rooms, zero words behind them
+--   divide-normal        0: quotient and remainder are in falling order, with coefficients 1 to p − 1
 --   divide-equation      0: f is the quotient times g plus the remainder, of which no term is divisible by g's lead monomial
 --   divide-only          and every two polynomials of any size with these two properties are equal to quotient and remainder
 --   divide-exact         of a multiple of g: the other factor and remainder zero, or 10 where that factor has more terms than the room
@@ -165,6 +166,11 @@ module _ (κs : _) (x : _) (t : _) (s : _) (post : call.Post κs x t s) where
         o .2 ∙ ap (λ (k : Poly (Letters 4)). filled (length r) (wordsOf base k)) (sym (e .1)),
         o .3,
       )
+
+  pub divide-normal : t .number ≡ 0 → Normal (Lex 4) p quotient × Normal (Lex 4) p remainder
+  divide-normal h =
+      let e = in-rooms h in
+      transport (λ d. Normal (Lex 4) p (sym (e .0) d) × Normal (Lex 4) p (sym (e .1) d)) (says p f g q r work (told-finished ended h .0) .normal)
 
   -- What reply 0 says of all polynomials, of any size
 

@@ -24,6 +24,7 @@ use Rattle.algebra.proofs.Scan.{first-hit, first-miss}
 use Rattle.algebra.proofs.NormalForm.{Small, reduced-small, all-map}
 use Rattle.algebra.proofs.Tests.{never}
 use Rattle.algebra.proofs.Degrees.{largest-most, factor-weight}
+use Rattle.algebra.proofs.Walk.{walk-divides}
 use Rattle.algebra.proofs.Ends.{Judged, Heights, walk-finishes, walk-no-remainder, walk-passed, walk-met}
 use Rattle.algebra.proofs.Verdicts.{done-divides, done-only, next-coef, refused-term, exact-none, exact-done, Trouble, stop-trouble}
 use Rattle.monomial.specs.Layout.{base, fits, divides}
@@ -123,6 +124,7 @@ pub record DivisionSays (p : ℕ) (f g : Poly (Letters 4)) (lead : Letters 4 .Mo
   pub replies : (w .reply ≡ 0) ⊎ (8 < w .reply)
   pub quotient-fits : All (λ m. fit base m ≡ true) (w .quotient)
   pub remainder-fits : All (λ m. fit base m ≡ true) (w .remainder)
+  pub normal : Normal (Lex 4) p (w .quotient) × Normal (Lex 4) p (w .remainder)
   pub equation : w .reply ≡ 0 → Equal p f (mul (w .quotient) g ++ w .remainder) × NoMultiple p lead (w .remainder)
   pub only : w .reply ≡ 0 → (q′ r′ : Poly (Letters 4)) → Equal p f (mul q′ g ++ r′) → NoMultiple p lead r′ → Equal p (w .quotient) q′ × Equal p (w .remainder) r′
   pub exact : (h : Poly (Letters 4)) → Equal p f (mul h g) → ((w .reply ≡ 0) × (w .quotient ≡ norm (Lex 4) p h) × (w .remainder ≡ [])) ⊎ ((w .reply ≡ 10) × (q < length (norm (Lex 4) p h)))
@@ -253,6 +255,7 @@ module _ {p : ℕ} (P : Prime p) (lead : Term (Letters 4)) (later : Poly (Letter
           replies = division-replies;
           quotient-fits = walk-passed (Lex 4) p lead later divide (λ m. fit base m ≡ true) division-passed steps 0 0 f;
           remainder-fits = division-met;
+          normal = let d = walk-divides (Lex 4) P lead later ng divide steps 0 0 f (nf .falling) small in (d .quotient-normal, d .remainder-normal);
           equation = done-divides (Lex 4) P lead later ng divide steps f (nf .falling) small;
           only = done-only (Lex 4) P lead later ng divide steps f (nf .falling) small;
           exact = division-exact;

@@ -6,6 +6,7 @@
 --   difference-unchanged       after 1 to 6 the room is as it was
 --   difference-cleared         10 carries no operand, no term and no count, and the room is all zero
 --   difference-written         0 carries the number of terms; the room has the terms of the true result, and zero words to the end
+--   difference-poly            with 0, the polynomial in the room is the difference's normal form
 --   difference-coefficients    with 0, the polynomial in the room is the difference at every monomial, of any size
 --   difference-count           with 0, every normal polynomial that is the difference has as many terms as are told
 use Prim.Native.Nat.{ℕ, _+_, _*_, _<_, _≤_}
@@ -30,7 +31,7 @@ use Rattle.poly.specs.declared.report.Report.{Report}
 use Rattle.ring.specs.Outcomes.{outcome, cleared}
 use Rattle.ring.specs.Calls.{differenceOf}
 use Rattle.ring.proofs.Merging.{mergedOf}
-use Rattle.ring.proofs.Merges.{due, positive, merged-refuses, merged-full, merged-done, merged-unchanged, merged-cleared, merged-written, merged-coef, merged-count}
+use Rattle.ring.proofs.Merges.{due, positive, merged-refuses, merged-full, merged-done, merged-unchanged, merged-cleared, merged-written, merged-poly, merged-coef, merged-count}
 use Rattle.ring.proofs.sums.difference.Reads as difference
 
 module _ (κs : _) (x : _) (r : _) (s : _) (post : difference.Post κs x r s) where
@@ -70,6 +71,9 @@ module _ (κs : _) (x : _) (r : _) (s : _) (post : difference.Post κs x r s) wh
 
   pub difference-written : r .number ≡ 0 → (r ≡ done (length (norm (Lex 4) p (polyOf base a ++ negated p (polyOf base b)))) 0) × (out ≡ filled (length room) (wordsOf base (norm (Lex 4) p (polyOf base a ++ negated p (polyOf base b)))))
   difference-written = merged-written p true a b room r out outcome-told
+
+  pub difference-poly : r .number ≡ 0 → (0 < p) × (polyOf base (take (2 * r .first) out) ≡ norm (Lex 4) p (polyOf base a ++ negated p (polyOf base b)))
+  difference-poly t = (positive p true a b room r out outcome-told t, merged-poly p true a b room r out outcome-told t)
 
   pub difference-coefficients : r .number ≡ 0 → (m : Letters 4 .Mon) → Same p (coef (polyOf base (take (2 * r .first) out)) m + coef (polyOf base b) m) (coef (polyOf base a) m)
   difference-coefficients t m =

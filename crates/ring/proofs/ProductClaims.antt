@@ -8,6 +8,7 @@
 --   product-unchanged      after 1 to 8 the room and the work are as they were
 --   product-nine, product-ten  9 and 10 carry no operand, no term and no count; room and work are all zero
 --   product-written        0 carries the terms of the true product; the room has them, then zero words; the work is all zero
+--   product-poly           with 0, the polynomial in the room is the product's normal form
 --   product-coefficients   with 0, at every monomial the coefficient is the sum, modulo p, of all a·b whose monomials multiply to it
 --   product-count          with 0, every normal polynomial that is the product has as many terms as are told
 --   product-zero-factor    if either factor is zero, the product is zero
@@ -200,12 +201,15 @@ module _ (κs : _) (x : _) (r : _) (s : _) (post : call.Post κs x r s) where
     first-terms : r .first ≡ length (product p a b)
     first-terms = ap (λ (y : Report). y .first) (product-written t .0)
 
-    -- the polynomial in the room
     in-room : polyOf base (take (2 * r .first) out) ≡ product p a b
     in-room =
         (λ d. polyOf base (take (2 * first-terms d) (product-written t .1 d)))
         ∙ filled-poly (product p a b) (length room)
         (norm-all (Lex 4) positive (λ m. fit base m ≡ true) (mul (polyOf base a) (polyOf base b)) (products-fit (polyOf base a) (polyOf base b) (bursts-not p a b room work (product-done .0 t .1))))
+
+    -- the polynomial in the room
+    pub product-poly : (0 < p) × (polyOf base (take (2 * r .first) out) ≡ norm (Lex 4) p (mul (polyOf base a) (polyOf base b)))
+    product-poly = (positive, in-room)
 
     -- The coefficient of the product at a monomial is the sum, modulo p, of all a·b whose monomials multiply to it.
     pub product-coefficients : (m : Letters 4 .Mon) → Same p (coef (polyOf base (take (2 * r .first) out)) m) (coef (mul (polyOf base a) (polyOf base b)) m)

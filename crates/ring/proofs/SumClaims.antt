@@ -6,6 +6,7 @@
 --   sum-unchanged       after 1 to 6 the room is as it was
 --   sum-cleared         10 carries no operand, no term and no count, and the room is all zero
 --   sum-written         0 carries the number of terms; the room has the terms of the true result, and zero words to the end
+--   sum-poly            with 0, the polynomial in the room is the sum's normal form
 --   sum-coefficients    with 0, the polynomial in the room is the sum at every monomial, of any size
 --   sum-count           with 0, every normal polynomial that is the sum has as many terms as are told
 use Prim.Native.Nat.{ℕ, _+_, _*_, _<_, _≤_}
@@ -26,7 +27,7 @@ use Rattle.poly.specs.declared.report.Report.{Report}
 use Rattle.ring.specs.Outcomes.{outcome, cleared}
 use Rattle.ring.specs.Calls.{sumOf}
 use Rattle.ring.proofs.Merging.{mergedOf}
-use Rattle.ring.proofs.Merges.{due, merged-refuses, merged-full, merged-done, merged-unchanged, merged-cleared, merged-written, merged-coef, merged-count}
+use Rattle.ring.proofs.Merges.{due, merged-refuses, merged-full, merged-done, merged-unchanged, merged-cleared, merged-written, positive, merged-poly, merged-coef, merged-count}
 use Rattle.ring.proofs.sums.sum.Reads as sum
 
 module _ (κs : _) (x : _) (r : _) (s : _) (post : sum.Post κs x r s) where
@@ -66,6 +67,9 @@ module _ (κs : _) (x : _) (r : _) (s : _) (post : sum.Post κs x r s) where
 
   pub sum-written : r .number ≡ 0 → (r ≡ done (length (norm (Lex 4) p (polyOf base a ++ polyOf base b))) 0) × (out ≡ filled (length room) (wordsOf base (norm (Lex 4) p (polyOf base a ++ polyOf base b))))
   sum-written = merged-written p false a b room r out outcome-told
+
+  pub sum-poly : r .number ≡ 0 → (0 < p) × (polyOf base (take (2 * r .first) out) ≡ norm (Lex 4) p (polyOf base a ++ polyOf base b))
+  sum-poly t = (positive p false a b room r out outcome-told t, merged-poly p false a b room r out outcome-told t)
 
   pub sum-coefficients : r .number ≡ 0 → (m : Letters 4 .Mon) → Same p (coef (polyOf base (take (2 * r .first) out)) m) (coef (polyOf base a) m + coef (polyOf base b) m)
   sum-coefficients t m = merged-coef p false a b room r out outcome-told t m
