@@ -1,3 +1,5 @@
 -- The claims shown.
 pub mod Sheet
+pub mod Demand1
+pub mod Demand2
 pub mod Demand3

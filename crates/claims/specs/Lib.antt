@@ -1,2 +1,3 @@
 -- What is claimed of the engine as a whole.
 pub mod Sheet
+pub mod Demands

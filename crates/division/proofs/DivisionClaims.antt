@@ -3,6 +3,7 @@
 --   divide-refuses       each of 1 to 8 is told exactly when it is the first due of the ordered rules
 --   divide-replies       0, 9, 10 and 11 exactly when none of them is due and the walk of document 01 ends so
 --   divide-answers       where none of them is due, the reply is 0, 9, 10 or 11
+--   divide-accepts       unless one of 1 to 8 is told, modulus, inputs, rooms and work are good
 --   divide-unchanged     after 1 to 8 the rooms and the work are as they were
 --   divide-cleared       9, 10 and 11 carry no operand, no term and no count; rooms and work are all zero
 --   divide-written       with 0 the work is all zero, the counts are those of the polynomials in the rooms, zero words behind them
@@ -10,29 +11,35 @@
 --   divide-equation      0: f is the quotient times g plus the remainder, of which no term is divisible by g's lead monomial
 --   divide-only          and every two polynomials of any size with these two properties are equal to quotient and remainder
 --   divide-exact         of a multiple of g: the other factor and remainder zero, or 10 where that factor has more terms than the room
+--   divide-returns       of a multiple a·g, the words of a where they fit the quotient room
 --   divide-stops         9, 10 and 11: the term at which the walk stopped, and why
 use Prim.Native.Nat.{ℕ, _-_, _*_, _<_, _≤_}
 use mathlib.Core.Path.{_≡_, refl, sym, _∙_, ap, subst, transport}
 use mathlib.Core.List.{List, [], _∷_, _++_}
 use mathlib.Core.Logic.{_⊎_, inl, inr, _↔_}
+use native.Mathlib.Nat.{sub-zero}
 use native.Mathlib.Omega.{arith}
 use denote.Ref.{now}
-use lib.ListN.{length, take}
+use lib.ListN.{length, take, replicate}
 use Rattle.algebra.specs.Monomials.{Letters}
 use Rattle.algebra.specs.Orders.{Lex}
 use Rattle.algebra.specs.Polynomials.{Poly, mul, norm, Equal, NoMultiple, Normal}
 use Rattle.algebra.specs.Walk.{Walked}
+use Rattle.algebra.proofs.NormalForm.{norm-self}
+use Rattle.algebra.proofs.Leads.{prime-positive}
 use Rattle.monomial.specs.Layout.{base}
 use Rattle.poly.specs.Words.{records, termAt, terms, polyOf, wordsOf, filled}
 use Rattle.poly.specs.Reports.{refusal, done}
+use Rattle.poly.specs.Rules.{roomTerms}
+use Rattle.poly.specs.Valid.{Valid}
 use Rattle.poly.specs.declared.report.Report.{Report}
-use Rattle.poly.proofs.Readings.{valid-normal, valid-fits}
+use Rattle.poly.proofs.Readings.{length-poly, valid-normal, valid-fits, valid-words-of}
 use Rattle.ring.specs.Outcomes.{cleared}
 use Rattle.ring.proofs.Transport.{filled-poly}
 use Rattle.ring.proofs.Multiplying.{FirstDue}
 use Rattle.division.specs.Calls.{quotientRoom, remainderRoom, divideRules, divisionJudges, walkBy, Divided, divided, divideOf}
 use Rattle.division.proofs.Runs.{divisor-terms}
-use Rattle.division.proofs.Accepted.{divide-good}
+use Rattle.division.proofs.Accepted.{Good, divide-good}
 use Rattle.division.proofs.Due.{fold-within}
 use Rattle.division.proofs.Verdicts.{Left, DivisionDue, DivisionSays, division-says}
 use Rattle.division.proofs.Ways.{firstOf, Ends, told-refused, told-stopped, told-finished, refuses, replies}
@@ -130,6 +137,9 @@ module _ (κs : _) (x : _) (t : _) (s : _) (post : call.Post κs x t s) where
   pub divide-replies : (n : ℕ) → (n ≡ 0) ⊎ (8 < n) → (t .number ≡ n) ↔ (Passes p f g q r work × (walked p f g q r work .reply ≡ n))
   divide-replies = replies ended
 
+  pub divide-accepts : (t .number ≡ 0) ⊎ (8 < t .number) → Good p f g q work × (records r ≤ roomTerms)
+  divide-accepts c = divide-good p f g q r work (divideDue p f g q r work) refl (divide-replies (t .number) c .0 refl .0)
+
   -- Outputs and work afterwards
 
   pub divide-unchanged : 0 < t .number → t .number ≤ 8 → (q′ ≡ q) × (r′ ≡ r) × (spent ≡ work)
@@ -198,6 +208,24 @@ module _ (κs : _) (x : _) (t : _) (s : _) (post : call.Post κs x t s) where
           let o = in-rooms n in
           inl (n, o .0 ∙ e .1, o .1 ∙ e .2)
       go (inr e) = inr (divide-replies 10 (inr (omega arith)) .1 (z, e .0), e .1)
+
+  -- A dividend that is a times g, for a polynomial in words that fits the quotient room, gives these words back.
+  pub divide-returns : Passes p f g q r work → (a : List ℕ) → Valid p a → Equal p (polyOf base f) (mul (polyOf base a) (polyOf base g)) → records a ≤ records q → (t ≡ done (records a) 0) × (q′ ≡ filled (length q) a) × (r′ ≡ cleared r) × (spent ≡ cleared work)
+  divide-returns z a v d room = go (divide-exact z (polyOf base a) d)
+    where
+      self : norm (Lex 4) p (polyOf base a) ≡ polyOf base a
+      self = norm-self (Lex 4) (prime-positive (divide-good p f g q r work (divideDue p f g q r work) refl z .0 .prime)) (polyOf base a) (valid-normal p a v)
+
+      go : ((t .number ≡ 0) × (quotient ≡ norm (Lex 4) p (polyOf base a)) × (remainder ≡ [])) ⊎ ((t .number ≡ 10) × (records q < length (norm (Lex 4) p (polyOf base a)))) → (t ≡ done (records a) 0) × (q′ ≡ filled (length q) a) × (r′ ≡ cleared r) × (spent ≡ cleared work)
+      go (inl e) =
+          let w = divide-written (e .0) in
+          let one : quotient ≡ polyOf base a = e .1 ∙ self in (
+            w .0 ∙ (λ i. done (length (one i)) (length (e .2 i))) ∙ ap (λ (n : ℕ). done n 0) (length-poly base a),
+            w .1 ∙ ap (λ (k : Poly (Letters 4)). filled (length q) (wordsOf base k)) one ∙ ap (filled (length q)) (valid-words-of p a v),
+            w .2 ∙ ap (λ (k : Poly (Letters 4)). filled (length r) (wordsOf base k)) (e .2) ∙ ap (λ (n : ℕ). replicate n 0) (sub-zero (length r)),
+            w .3,
+          )
+      go (inr e) = absurd (omega (arith, e .1, ap length self, length-poly base a))
 
   -- 9 where the quotient of the greatest term left has an exponent that with M(g, v) is over 32,767, else 10 where the quotient room
   -- is full; 11 where g's lead monomial does not divide that term and the remainder room is full.

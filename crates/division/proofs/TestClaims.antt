@@ -3,6 +3,7 @@
 --   divides-refuses      each of 1 to 8 is told exactly when it is the first due of the ordered rules
 --   divides-replies      0, 10 and 12 exactly when none of them is due and the walk of document 01 ends so
 --   divides-answers      where none of them is due, the reply is 0, 10 or 12
+--   divides-accepts      unless one of 1 to 8 is told, modulus, inputs, room and work are good
 --   divides-unchanged    after 1 to 8 the room and the work are as they were
 --   divides-cleared      10 and 12 carry no operand, no term and no count; room and work are all zero
 --   divides-written      with 0 the work is all zero, the count is that of the polynomial in the room, and zero words stand behind it
@@ -32,7 +33,7 @@ use Rattle.ring.proofs.Multiplying.{FirstDue}
 use Rattle.ring.proofs.ProductClaims.{parts}
 use Rattle.division.specs.Calls.{quotientRoom, testRules, testJudges, walkBy, dividesOf}
 use Rattle.division.proofs.Runs.{divisor-terms}
-use Rattle.division.proofs.Accepted.{test-good}
+use Rattle.division.proofs.Accepted.{Good, test-good}
 use Rattle.division.proofs.Due.{fold-within}
 use Rattle.division.proofs.Verdicts.{Left, TestDue, TestSays, test-says}
 use Rattle.division.proofs.Ways.{firstOf, Ends, told-refused, told-stopped, told-finished, refuses, replies}
@@ -133,6 +134,9 @@ module _ (κs : _) (x : _) (r : _) (s : _) (post : call.Post κs x r s) where
       go (inl e) = inl (divides-replies 0 (inl refl) .1 (z, e))
       go (inr (inl e)) = inr (inl (divides-replies 10 (inr (omega arith)) .1 (z, e)))
       go (inr (inr e)) = inr (inr (divides-replies 12 (inr (omega arith)) .1 (z, e)))
+
+  pub divides-accepts : (r .number ≡ 0) ⊎ (8 < r .number) → Good p f g q work
+  divides-accepts c = test-good p f g q work (testDue p f g q work) refl (divides-replies (r .number) c .0 refl .0)
 
   -- Outputs and work afterwards
 

@@ -3,6 +3,8 @@
 --   difference-refuses         1 to 6 are told exactly when they are the first due, with their operand and term
 --   difference-full            10 exactly when none of them is due and the true result has more terms than the room
 --   difference-done            0 exactly when none of them is due and the true result fits
+--   difference-over            no other number is over 8
+--   difference-accepts         unless one of 1 to 8 is told, modulus, inputs and room are good
 --   difference-unchanged       after 1 to 6 the room is as it was
 --   difference-cleared         10 carries no operand, no term and no count, and the room is all zero
 --   difference-written         0 carries the number of terms; the room has the terms of the true result, and zero words to the end
@@ -13,7 +15,7 @@ use Prim.Native.Nat.{ℕ, _+_, _*_, _<_, _≤_}
 use mathlib.Core.Path.{_≡_}
 use mathlib.Core.Bool.{true}
 use mathlib.Core.List.{List, [], _++_}
-use mathlib.Core.Logic.{_↔_}
+use mathlib.Core.Logic.{_⊎_, _↔_}
 use native.Mathlib.Nat.{add-zero}
 use native.Mathlib.Omega.{arith}
 use denote.Ref.{now}
@@ -31,7 +33,8 @@ use Rattle.poly.specs.declared.report.Report.{Report}
 use Rattle.ring.specs.Outcomes.{outcome, cleared}
 use Rattle.ring.specs.Calls.{differenceOf}
 use Rattle.ring.proofs.Merging.{mergedOf}
-use Rattle.ring.proofs.Merges.{due, positive, merged-refuses, merged-full, merged-done, merged-unchanged, merged-cleared, merged-written, merged-poly, merged-coef, merged-count}
+use Rattle.ring.proofs.Refusals.{Good}
+use Rattle.ring.proofs.Merges.{due, positive, merged-refuses, merged-full, merged-done, merged-unchanged, merged-over, merged-accepts, merged-cleared, merged-written, merged-poly, merged-coef, merged-count}
 use Rattle.ring.proofs.sums.difference.Reads as difference
 
 module _ (κs : _) (x : _) (r : _) (s : _) (post : difference.Post κs x r s) where
@@ -54,7 +57,7 @@ module _ (κs : _) (x : _) (r : _) (s : _) (post : difference.Post κs x r s) wh
   unfolding differenceOf
   outcome-told = post
 
-  pub difference-refuses : (q : Report) → 0 < q .number → q .number ≤ 6 → (r ≡ q) ↔ (due p a b room ≡ q)
+  pub difference-refuses : (q : Report) → 0 < q .number → q .number ≤ 8 → (r ≡ q) ↔ (due p a b room ≡ q)
   difference-refuses = merged-refuses p true a b room r out outcome-told
 
   pub difference-full : (r .number ≡ 10) ↔ ((due p a b room .number ≡ 0) × (records room < length (norm (Lex 4) p (polyOf base a ++ negated p (polyOf base b)))))
@@ -63,8 +66,14 @@ module _ (κs : _) (x : _) (r : _) (s : _) (post : difference.Post κs x r s) wh
   pub difference-done : (r .number ≡ 0) ↔ ((due p a b room .number ≡ 0) × (length (norm (Lex 4) p (polyOf base a ++ negated p (polyOf base b))) ≤ records room))
   difference-done = merged-done p true a b room r out outcome-told
 
-  pub difference-unchanged : 0 < r .number → r .number ≤ 6 → out ≡ room
+  pub difference-unchanged : 0 < r .number → r .number ≤ 8 → out ≡ room
   difference-unchanged = merged-unchanged p true a b room r out outcome-told
+
+  pub difference-over : 8 < r .number → r .number ≡ 10
+  difference-over = merged-over p true a b room r out outcome-told
+
+  pub difference-accepts : (r .number ≡ 0) ⊎ (8 < r .number) → Good p a b room
+  difference-accepts = merged-accepts p true a b room r out outcome-told
 
   pub difference-cleared : r .number ≡ 10 → (r ≡ refusal 10 0 0) × (out ≡ cleared room)
   difference-cleared = merged-cleared p true a b room r out outcome-told

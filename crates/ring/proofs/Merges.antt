@@ -4,6 +4,7 @@
 --   when-refused, when-full, when-done      the outcome under each condition
 --   merged-refuses, merged-full, merged-done      each reply exactly when its condition holds
 --   merged-unchanged, merged-cleared, merged-written      the report and the room after each reply
+--   merged-over, merged-accepts     no other number is over 8; unless one of 1 to 8 is told, modulus, inputs and room are good
 --   positive             with 0, the modulus is positive
 --   merged-poly, merged-coef, merged-count      with 0, the polynomial in the room, its coefficients and its number of terms
 use Prim.Native.Nat.{ℕ, _+_, _*_, _<_, _≤_}
@@ -70,7 +71,7 @@ module _ (p : ℕ) (minus : Bool) (a b room : List ℕ) (r : Report) (out : List
       go (yes z) (yes h) = inr (inr (z, h, ap (λ (x : Report). x .number) (when-done z h .0)))
       go (yes z) (no h) = let l : records room < length (result p minus a b) = omega arith in inr (inl (z, l, ap (λ (x : Report). x .number) (when-full z l .0)))
 
-  pub merged-refuses : (q : Report) → 0 < q .number → q .number ≤ 6 → (r ≡ q) ↔ (due p a b room ≡ q)
+  pub merged-refuses : (q : Report) → 0 < q .number → q .number ≤ 8 → (r ≡ q) ↔ (due p a b room ≡ q)
   merged-refuses q h k = (
     λ t.
         let n : r .number ≡ q .number = ap (λ (x : Report). x .number) t in
@@ -90,9 +91,21 @@ module _ (p : ℕ) (minus : Bool) (a b room : List ℕ) (r : Report) (out : List
     λ h. ap (λ (x : Report). x .number) (when-done (h .0) (h .1) .0),
   )
 
-  pub merged-unchanged : 0 < r .number → r .number ≤ 6 → out ≡ room
+  pub merged-unchanged : 0 < r .number → r .number ≤ 8 → out ≡ room
   merged-unchanged h k =
       elim ways [ inl w ↦ w .2 | inr w ↦ elim w [ inl v ↦ absurd (let f : r .number ≡ 10 = v .2 in omega arith) | inr v ↦ absurd (let f : r .number ≡ 0 = v .2 in omega arith) ] ]
+
+  -- no other number is over 8
+  pub merged-over : 8 < r .number → r .number ≡ 10
+  merged-over h =
+      elim ways [ inl w ↦ absurd (due-within p a b room (r .number) (omega arith) (ap (λ (x : Report). x .number) (sym (w .1)))) | inr w ↦ elim w [ inl v ↦ v .2 | inr v ↦ absurd (let f : r .number ≡ 0 = v .2 in omega arith) ] ]
+
+  pub merged-accepts : (r .number ≡ 0) ⊎ (8 < r .number) → Good p a b room
+  merged-accepts c = inputs-good p a b room (due p a b room) none refl (passed c)
+    where
+      passed : (r .number ≡ 0) ⊎ (8 < r .number) → due p a b room .number ≡ 0
+      passed (inl t) = merged-done .0 t .0
+      passed (inr h) = merged-full .0 (merged-over h) .0
 
   pub merged-cleared : r .number ≡ 10 → (r ≡ refusal 10 0 0) × (out ≡ cleared room)
   merged-cleared t = let h = merged-full .0 t in when-full (h .0) (h .1)

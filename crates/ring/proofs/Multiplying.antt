@@ -7,7 +7,7 @@
 --   fold-first-due       a fold tells a refusal exactly when it is the first due
 --   rules-within         no rule has a number over 8
 --   Way, way             the four ways out, each with its condition and all that it leaves; every call takes one
---   factors-good         where none of the rules is due, the inputs and the room are good
+--   factors-good, work-good    where none of the rules is due, the inputs and the room are good, and the work is long enough
 --   bursts-not           where no letter bursts, the code finds none
 --   bursts-nonzero       where none of the rules is due and a letter bursts, both factors have terms
 --   no-factor            where one has none, the product is zero
@@ -33,7 +33,8 @@ use Rattle.poly.specs.Words.{records, terms, polyOf, wordsOf, filled}
 use Rattle.poly.specs.Reports.{none, done, refusal, orElse, firstOr}
 use Rattle.poly.specs.Rules.{unless, workRule}
 use Rattle.poly.specs.declared.report.Report.{Report}
-use Rattle.poly.proofs.Reports.{Passed, or-else-next, or-else-here, fold-append, fold-passed, passed-fold, fold-refused, fold-tells}
+use Rattle.poly.proofs.Reports.{Passed, passed-append, or-else-next, or-else-here, fold-append, fold-passed, passed-fold, fold-refused, fold-tells}
+use Rattle.poly.proofs.Valid.{work-passed}
 use Rattle.ring.specs.Outcomes.{Outcome, outcome, cleared, inRoom}
 use Rattle.ring.specs.Calls.{twoInputs, burstAt, multiplied, productOf}
 use Rattle.ring.proofs.Refusals.{Good, inputs-good, due-within}
@@ -126,6 +127,11 @@ module _ (p : ℕ) (a b room work : List ℕ) where
 
   pub factors-good : due p a b room work .number ≡ 0 → Good p a b room
   factors-good z = inputs-good p a b room (due p a b room work) last due-last z
+
+  pub work-good : due p a b room work .number ≡ 0 → 4 * min (records a) (records b) ≤ length work
+  work-good z =
+      let least = 4 * min (records a) (records b) in
+      work-passed least work (passed-append (twoInputs p a b room) (workRule least work ∷ []) (fold-passed (rules p a b room work) none z .0) .1 .0)
 
   -- Letters that burst
 

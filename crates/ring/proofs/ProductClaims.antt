@@ -7,12 +7,14 @@
 --   product-done           else 0
 --   product-unchanged      after 1 to 8 the room and the work are as they were
 --   product-nine, product-ten  9 and 10 carry no operand, no term and no count; room and work are all zero
+--   product-cleared        the same of both
+--   product-accepts        unless one of 1 to 8 is told, modulus, inputs, room and work are good
 --   product-written        0 carries the terms of the true product; the room has them, then zero words; the work is all zero
 --   product-poly           with 0, the polynomial in the room is the product's normal form
 --   product-coefficients   with 0, at every monomial the coefficient is the sum, modulo p, of all a·b whose monomials multiply to it
 --   product-count          with 0, every normal polynomial that is the product has as many terms as are told
 --   product-zero-factor    if either factor is zero, the product is zero
-use Prim.Native.Nat.{ℕ, _*_, _<_, _≤_}
+use Prim.Native.Nat.{ℕ, _*_, _<_, _≤_, min}
 use mathlib.Core.Path.{_≡_, sym, _∙_, ap}
 use mathlib.Core.Bool.{true}
 use mathlib.Core.List.{List, []}
@@ -33,6 +35,7 @@ use Rattle.poly.specs.Words.{records, polyOf, wordsOf, filled}
 use Rattle.poly.specs.Reports.{refusal, done}
 use Rattle.poly.specs.declared.report.Report.{Report}
 use Rattle.ring.specs.Outcomes.{Outcome, outcome, cleared}
+use Rattle.ring.proofs.Refusals.{Good}
 use Rattle.ring.proofs.Bursts.{products-fit}
 use Rattle.ring.proofs.Transport.{filled-poly}
 use Rattle.ring.proofs.Multiplying.{
@@ -44,6 +47,7 @@ use Rattle.ring.proofs.Multiplying.{
   fold-first-due,
   rules-within,
   factors-good,
+  work-good,
   bursts-not,
   Way,
   refused,
@@ -97,6 +101,12 @@ module _ (p : ℕ) (a b room work : List ℕ) (r : Report) (out spent : List ℕ
   told-ten h (burst z v e) = absurd (omega (arith, number-told e))
   told-ten h (full z n l e) = ((z, n, l), parts e)
   told-ten h (finished z n l e) = absurd (omega (arith, number-told e))
+
+  told-over : 8 < r .number → Way p a b room work r out spent → Passes × ((r ≡ refusal (r .number) 0 0) × (out ≡ cleared room) × (spent ≡ cleared work))
+  told-over h (refused n e) = absurd (rules-within p a b room work (r .number) h (sym (number-told e)))
+  told-over h (burst z v e) = let o = parts e in (z, (o .0 ∙ ap (λ (n : ℕ). refusal n 0 0) (sym (number-told e)), o .1, o .2))
+  told-over h (full z n l e) = let o = parts e in (z, (o .0 ∙ ap (λ (n : ℕ). refusal n 0 0) (sym (number-told e)), o .1, o .2))
+  told-over h (finished z n l e) = absurd (omega (arith, number-told e))
 
   ten-told : Passes → (Bursts a b → ⊥) → records room < length (product p a b) → Way p a b room work r out spent → r .number ≡ 10
   ten-told z n l (refused k e) = absurd (k z)
@@ -188,6 +198,16 @@ module _ (κs : _) (x : _) (r : _) (s : _) (post : call.Post κs x r s) where
 
   pub product-ten : r .number ≡ 10 → (r ≡ refusal 10 0 0) × (out ≡ cleared room) × (spent ≡ cleared work)
   product-ten h = told-ten p a b room work r out spent h taken .1
+
+  pub product-cleared : 8 < r .number → (r ≡ refusal (r .number) 0 0) × (out ≡ cleared room) × (spent ≡ cleared work)
+  product-cleared h = told-over p a b room work r out spent h taken .1
+
+  pub product-accepts : (r .number ≡ 0) ⊎ (8 < r .number) → Good p a b room × (4 * min (records a) (records b) ≤ length work)
+  product-accepts c = (factors-good p a b room work (passed c), work-good p a b room work (passed c))
+    where
+      passed : (r .number ≡ 0) ⊎ (8 < r .number) → due p a b room work .number ≡ 0
+      passed (inl t) = product-done .0 t .0
+      passed (inr h) = told-over p a b room work r out spent h taken .0
 
   pub product-written : r .number ≡ 0 → (r ≡ done (length (norm (Lex 4) p (mul (polyOf base a) (polyOf base b)))) 0) × (out ≡ filled (length room) (wordsOf base (norm (Lex 4) p (mul (polyOf base a) (polyOf base b))))) × (spent ≡ cleared work)
   product-written h = told-done p a b room work r out spent h taken .1

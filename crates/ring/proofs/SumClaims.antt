@@ -3,6 +3,8 @@
 --   sum-refuses         1 to 6 are told exactly when they are the first due, with their operand and term
 --   sum-full            10 exactly when none of them is due and the true result has more terms than the room
 --   sum-done            0 exactly when none of them is due and the true result fits
+--   sum-over            no other number is over 8
+--   sum-accepts         unless one of 1 to 8 is told, modulus, inputs and room are good
 --   sum-unchanged       after 1 to 6 the room is as it was
 --   sum-cleared         10 carries no operand, no term and no count, and the room is all zero
 --   sum-written         0 carries the number of terms; the room has the terms of the true result, and zero words to the end
@@ -13,7 +15,7 @@ use Prim.Native.Nat.{ℕ, _+_, _*_, _<_, _≤_}
 use mathlib.Core.Path.{_≡_}
 use mathlib.Core.Bool.{false}
 use mathlib.Core.List.{List, [], _++_}
-use mathlib.Core.Logic.{_↔_}
+use mathlib.Core.Logic.{_⊎_, _↔_}
 use denote.Ref.{now}
 use lib.ListN.{length, take}
 use Rattle.algebra.specs.Residues.{Same}
@@ -27,7 +29,8 @@ use Rattle.poly.specs.declared.report.Report.{Report}
 use Rattle.ring.specs.Outcomes.{outcome, cleared}
 use Rattle.ring.specs.Calls.{sumOf}
 use Rattle.ring.proofs.Merging.{mergedOf}
-use Rattle.ring.proofs.Merges.{due, merged-refuses, merged-full, merged-done, merged-unchanged, merged-cleared, merged-written, positive, merged-poly, merged-coef, merged-count}
+use Rattle.ring.proofs.Refusals.{Good}
+use Rattle.ring.proofs.Merges.{due, merged-refuses, merged-full, merged-done, merged-unchanged, merged-over, merged-accepts, merged-cleared, merged-written, positive, merged-poly, merged-coef, merged-count}
 use Rattle.ring.proofs.sums.sum.Reads as sum
 
 module _ (κs : _) (x : _) (r : _) (s : _) (post : sum.Post κs x r s) where
@@ -50,7 +53,7 @@ module _ (κs : _) (x : _) (r : _) (s : _) (post : sum.Post κs x r s) where
   unfolding sumOf
   outcome-told = post
 
-  pub sum-refuses : (q : Report) → 0 < q .number → q .number ≤ 6 → (r ≡ q) ↔ (due p a b room ≡ q)
+  pub sum-refuses : (q : Report) → 0 < q .number → q .number ≤ 8 → (r ≡ q) ↔ (due p a b room ≡ q)
   sum-refuses = merged-refuses p false a b room r out outcome-told
 
   pub sum-full : (r .number ≡ 10) ↔ ((due p a b room .number ≡ 0) × (records room < length (norm (Lex 4) p (polyOf base a ++ polyOf base b))))
@@ -59,8 +62,14 @@ module _ (κs : _) (x : _) (r : _) (s : _) (post : sum.Post κs x r s) where
   pub sum-done : (r .number ≡ 0) ↔ ((due p a b room .number ≡ 0) × (length (norm (Lex 4) p (polyOf base a ++ polyOf base b)) ≤ records room))
   sum-done = merged-done p false a b room r out outcome-told
 
-  pub sum-unchanged : 0 < r .number → r .number ≤ 6 → out ≡ room
+  pub sum-unchanged : 0 < r .number → r .number ≤ 8 → out ≡ room
   sum-unchanged = merged-unchanged p false a b room r out outcome-told
+
+  pub sum-over : 8 < r .number → r .number ≡ 10
+  sum-over = merged-over p false a b room r out outcome-told
+
+  pub sum-accepts : (r .number ≡ 0) ⊎ (8 < r .number) → Good p a b room
+  sum-accepts = merged-accepts p false a b room r out outcome-told
 
   pub sum-cleared : r .number ≡ 10 → (r ≡ refusal 10 0 0) × (out ≡ cleared room)
   sum-cleared = merged-cleared p false a b room r out outcome-told

@@ -1,0 +1,318 @@
+-- Demand 2: "Sum, difference, product, quotient and remainder are those of the polynomial ring in four letters over the integers modulo p,
+-- in lexicographic order. A product short enough to be lent again, divided by a nonzero factor, gives the other factor back where the
+-- quotient room and the work array suffice and none of replies 1 to 8 is due. Each reply is given exactly when its rule says so."
+--
+-- Each theorem about a call is about whatever outcome its generated contract allows. Here x is what a call was lent, t its answer and s
+-- what it left; a name with ′ is the same array afterwards.
+--
+--   ring                    the polynomials in four letters over the integers modulo p are a commutative ring
+--   NAME-result             with reply 0, the polynomial in the room is the sum, difference or product
+--   division-results        with reply 0, quotient and remainder of f by g
+--   returned-second, returned-first      a product divided by its second, or its first, factor gives the other back
+--   NAME-refuses            each of 1 to 8 is told exactly when it is the first due
+--   NAME-full, product-bursts, NAME-done, division-replies, test-replies     each other reply exactly when its rule says so
+use Prim.Native.Nat.{ℕ, _*_, _<_, _≤_}
+use mathlib.Core.Path.{_≡_, sym, ap, subst, transport}
+use mathlib.Core.List.{List, [], _++_, append-nil}
+use mathlib.Core.Logic.{_⊎_, inl, _↔_}
+use denote.Ref.{now}
+use lib.ListN.{length, take}
+use Rattle.algebra.specs.Orders.{Lex}
+use Rattle.algebra.specs.Polynomials.{Equal, mul, negated, norm, Normal}
+use Rattle.algebra.proofs.NormalForm.{equal-refl, equal-sym, equal-trans, norm-equal, norm-normal}
+use Rattle.algebra.proofs.Ring.{sum-comm, sum-assoc, sum-negated, sum-equal, mul-comm, mul-assoc, mul-one, mul-sum, mul-equal}
+use Rattle.monomial.specs.Layout.{base}
+use Rattle.poly.specs.Words.{records, polyOf, filled}
+use Rattle.poly.specs.Reports.{none, done, firstOr}
+use Rattle.poly.specs.Valid.{Valid}
+use Rattle.poly.specs.declared.report.Report.{Report}
+use Rattle.poly.specs.Services.{checkOf}
+use Rattle.poly.proofs.check.check.Reads as check
+use Rattle.ring.specs.Outcomes.{cleared}
+use Rattle.ring.specs.Calls.{twoInputs}
+use Rattle.ring.proofs.sums.sum.Reads as sum
+use Rattle.ring.proofs.sums.difference.Reads as difference
+use Rattle.ring.proofs.product.product.Reads as product
+use Rattle.ring.proofs.Multiplying.{rules, Bursts, FirstDue, fold-first-due}
+use Rattle.ring.proofs.SumClaims as sums
+use Rattle.ring.proofs.DifferenceClaims as differences
+use Rattle.ring.proofs.ProductClaims as products
+use Rattle.division.specs.Calls.{divideRules, testRules, divisionJudges, testJudges, walkBy}
+use Rattle.division.proofs.division.divide.Reads as divide
+use Rattle.division.proofs.test.divides.Reads as divides
+use Rattle.division.proofs.Verdicts.{Left, DivisionDue, TestDue}
+use Rattle.division.proofs.DivisionClaims as divisions
+use Rattle.division.proofs.TestClaims as tests
+use Rattle.claims.specs.Demands.{P, Ring, front, Result, lead, Pair, terms}
+
+-- The polynomial ring in four letters over the integers modulo p.
+
+pub ring : (p : ℕ) → 0 < p → Ring p
+ring p h =
+    record {
+      same = λ f. equal-refl;
+      back = λ f g. equal-sym;
+      on = λ f g k. equal-trans;
+      sum-same = λ f f′ g g′. sum-equal (Lex 4) h;
+      sum-assoc = sum-assoc;
+      sum-comm = sum-comm;
+      sum-zero = λ f. subst (λ (k : P). Equal p (f ++ []) k) (append-nil f) equal-refl;
+      sum-negated = sum-negated h;
+      mul-same = λ f f′ g g′. mul-equal (Lex 4) h;
+      mul-assoc = mul-assoc;
+      mul-comm = mul-comm;
+      mul-one = mul-one;
+      mul-sum = mul-sum;
+    }
+
+-- Sum, difference, product, quotient and remainder, in lexicographic order.
+
+normal-result : {p : ℕ} {f h : P} → 0 < p → f ≡ norm (Lex 4) p h → Result p f h
+normal-result {p} {f} {h} k e =
+    subst (λ (g : P). Result p g h) (sym e) (record { equal = norm-equal (Lex 4) k h; normal = norm-normal (Lex 4) k h })
+
+pub sum-result : (κs : _) (x : _) (t : _) (s : _) → sum.Post κs x t s → t .number ≡ 0 →
+    let p = x .0 in
+    let a = now (x .1 .0) in
+    let b = now (x .1 .1 .0) in
+    let room′ = now (s .1 .1 .1 .0) in
+    Result p (front (t .first) room′) (polyOf base a ++ polyOf base b)
+sum-result κs x t s post h = let e = sums.sum-poly κs x t s post h in normal-result (e .0) (e .1)
+
+pub difference-result : (κs : _) (x : _) (t : _) (s : _) → difference.Post κs x t s → t .number ≡ 0 →
+    let p = x .0 in
+    let a = now (x .1 .0) in
+    let b = now (x .1 .1 .0) in
+    let room′ = now (s .1 .1 .1 .0) in
+    Result p (front (t .first) room′) (polyOf base a ++ negated p (polyOf base b))
+difference-result κs x t s post h = let e = differences.difference-poly κs x t s post h in normal-result (e .0) (e .1)
+
+pub product-result : (κs : _) (x : _) (t : _) (s : _) → product.Post κs x t s → t .number ≡ 0 →
+    let p = x .0 in
+    let a = now (x .1 .0) in
+    let b = now (x .1 .1 .0) in
+    let room′ = now (s .1 .1 .1 .0) in
+    Result p (front (t .first) room′) (mul (polyOf base a) (polyOf base b))
+product-result κs x t s post h = let e = products.product-poly κs x t s post h in normal-result (e .0) (e .1)
+
+pub division-results : (κs : _) (x : _) (t : _) (s : _) → divide.Post κs x t s → t .number ≡ 0 →
+    let p = x .0 in
+    let f = now (x .1 .0) in
+    let g = now (x .1 .1 .0) in
+    let q′ = now (s .1 .1 .1 .0) in
+    let r′ = now (s .1 .1 .1 .1 .0) in
+    Pair p (polyOf base f) (polyOf base g) (lead g) (front (t .first) q′) (front (t .second) r′) × Normal (Lex 4) p (front (t .first) q′) × Normal (Lex 4) p (front (t .second) r′)
+division-results κs x t s post h =
+    let e = divisions.divide-equation κs x t s post h in
+    let n = divisions.divide-normal κs x t s post h in
+    (record { equation = e .0; none = e .1 }, n .0, n .1)
+
+-- A product short enough to be lent again, divided by a nonzero factor, gives the other factor back where the quotient room and the work
+-- array suffice and none of replies 1 to 8 is due.
+
+-- Here x is what the product was lent and y what the division was; the product t ends in s, the division u in v.
+
+-- the dividend lent again is the product
+lent-again : (κs : _) (x : _) (t : _) (s : _) → product.Post κs x t s → t .number ≡ 0 → (f : List ℕ) → f ≡ take (2 * t .first) (now (s .1 .1 .1 .0)) → Equal (x .0) (polyOf base f) (mul (polyOf base (now (x .1 .0))) (polyOf base (now (x .1 .1 .0))))
+lent-again κs x t s post h f e =
+    subst (λ (k : P). Equal (x .0) k (mul (polyOf base (now (x .1 .0))) (polyOf base (now (x .1 .1 .0))))) (sym (ap (polyOf base) e)) (product-result κs x t s post h .equal)
+
+pub returned-first : (κs : _) (x : _) (t : _) (s : _) → product.Post κs x t s → (κt : _) (y : _) (u : _) (v : _) → divide.Post κt y u v →
+    let a = now (x .1 .0) in
+    let b = now (x .1 .1 .0) in
+    let room′ = now (s .1 .1 .1 .0) in
+    let p = y .0 in
+    let f = now (y .1 .0) in
+    let g = now (y .1 .1 .0) in
+    let q = now (y .1 .1 .1 .0) in
+    let r = now (y .1 .1 .1 .1 .0) in
+    let work = now (y .1 .1 .1 .1 .1 .0) in
+    let q′ = now (v .1 .1 .1 .0) in
+    let r′ = now (v .1 .1 .1 .1 .0) in
+    let work′ = now (v .1 .1 .1 .1 .1 .0) in
+    x .0 ≡ p → t .number ≡ 0 → f ≡ take (2 * t .first) room′ → g ≡ b → records a ≤ records q → firstOr (divideRules p f g q r work) none .number ≡ 0 → (u ≡ done (records a) 0) × (q′ ≡ filled (length q) a) × (r′ ≡ cleared r) × (work′ ≡ cleared work)
+returned-first κs x t s post κt y u v post′ same h lent factor room z =
+    let a = now (x .1 .0) in
+    let good = products.product-accepts κs x t s post (inl h) .0 in
+    let equal = lent-again κs x t s post h (now (y .1 .0)) lent in
+    divisions.divide-returns κt y u v post′ z a (subst (λ (p : ℕ). Valid p a) same (good .first)) (transport (λ i. Equal (same i) (polyOf base (now (y .1 .0))) (mul (polyOf base a) (polyOf base (sym factor i)))) equal) room
+
+pub returned-second : (κs : _) (x : _) (t : _) (s : _) → product.Post κs x t s → (κt : _) (y : _) (u : _) (v : _) → divide.Post κt y u v →
+    let a = now (x .1 .0) in
+    let b = now (x .1 .1 .0) in
+    let room′ = now (s .1 .1 .1 .0) in
+    let p = y .0 in
+    let f = now (y .1 .0) in
+    let g = now (y .1 .1 .0) in
+    let q = now (y .1 .1 .1 .0) in
+    let r = now (y .1 .1 .1 .1 .0) in
+    let work = now (y .1 .1 .1 .1 .1 .0) in
+    let q′ = now (v .1 .1 .1 .0) in
+    let r′ = now (v .1 .1 .1 .1 .0) in
+    let work′ = now (v .1 .1 .1 .1 .1 .0) in
+    x .0 ≡ p → t .number ≡ 0 → f ≡ take (2 * t .first) room′ → g ≡ a → records b ≤ records q → firstOr (divideRules p f g q r work) none .number ≡ 0 → (u ≡ done (records b) 0) × (q′ ≡ filled (length q) b) × (r′ ≡ cleared r) × (work′ ≡ cleared work)
+returned-second κs x t s post κt y u v post′ same h lent factor room z =
+    let b = now (x .1 .1 .0) in
+    let good = products.product-accepts κs x t s post (inl h) .0 in
+    let equal = equal-trans (lent-again κs x t s post h (now (y .1 .0)) lent) (mul-comm (polyOf base (now (x .1 .0))) (polyOf base b)) in
+    divisions.divide-returns κt y u v post′ z b (subst (λ (p : ℕ). Valid p b) same (good .second)) (transport (λ i. Equal (same i) (polyOf base (now (y .1 .0))) (mul (polyOf base b) (polyOf base (sym factor i)))) equal) room
+
+-- Each reply is given exactly when its rule says so. The rules of 1 to 8 stand in a list, and the first that is due is told, with its
+-- operand and its term.
+
+-- What each of 1 to 6 says of the slice: check-tells-1 .. check-tells-6 in poly/proofs/Valid.
+pub check-told : (κs : _) (x : _) (t : _) (s : _) → check.Post κs x t s → t ≡ checkOf (x .0) (now (x .1 .0))
+check-told κs x t s post = post
+
+pub sum-refuses : (κs : _) (x : _) (t : _) (s : _) → sum.Post κs x t s →
+    let p = x .0 in
+    let a = now (x .1 .0) in
+    let b = now (x .1 .1 .0) in
+    let room = now (x .1 .1 .1 .0) in
+    (n : Report) → 0 < n .number → n .number ≤ 8 → (t ≡ n) ↔ FirstDue (twoInputs p a b room) n
+sum-refuses κs x t s post n h k =
+    let r = sums.sum-refuses κs x t s post n h k in
+    let d = fold-first-due _ n h in
+    (λ e. d .0 (r .0 e), λ e. r .1 (d .1 e))
+
+-- 10 exactly when the true result, after cancellation, has more terms than the room.
+pub sum-full : (κs : _) (x : _) (t : _) (s : _) → sum.Post κs x t s →
+    let p = x .0 in
+    let a = now (x .1 .0) in
+    let b = now (x .1 .1 .0) in
+    let room = now (x .1 .1 .1 .0) in
+    (t .number ≡ 10) ↔ ((firstOr (twoInputs p a b room) none .number ≡ 0) × (records room < terms p (polyOf base a ++ polyOf base b)))
+sum-full = sums.sum-full
+
+pub sum-done : (κs : _) (x : _) (t : _) (s : _) → sum.Post κs x t s →
+    let p = x .0 in
+    let a = now (x .1 .0) in
+    let b = now (x .1 .1 .0) in
+    let room = now (x .1 .1 .1 .0) in
+    (t .number ≡ 0) ↔ ((firstOr (twoInputs p a b room) none .number ≡ 0) × (terms p (polyOf base a ++ polyOf base b) ≤ records room))
+sum-done = sums.sum-done
+
+pub difference-refuses : (κs : _) (x : _) (t : _) (s : _) → difference.Post κs x t s →
+    let p = x .0 in
+    let a = now (x .1 .0) in
+    let b = now (x .1 .1 .0) in
+    let room = now (x .1 .1 .1 .0) in
+    (n : Report) → 0 < n .number → n .number ≤ 8 → (t ≡ n) ↔ FirstDue (twoInputs p a b room) n
+difference-refuses κs x t s post n h k =
+    let r = differences.difference-refuses κs x t s post n h k in
+    let d = fold-first-due _ n h in
+    (λ e. d .0 (r .0 e), λ e. r .1 (d .1 e))
+
+-- 10 exactly when the true result, after cancellation, has more terms than the room.
+pub difference-full : (κs : _) (x : _) (t : _) (s : _) → difference.Post κs x t s →
+    let p = x .0 in
+    let a = now (x .1 .0) in
+    let b = now (x .1 .1 .0) in
+    let room = now (x .1 .1 .1 .0) in
+    (t .number ≡ 10) ↔ ((firstOr (twoInputs p a b room) none .number ≡ 0) × (records room < terms p (polyOf base a ++ negated p (polyOf base b))))
+difference-full = differences.difference-full
+
+pub difference-done : (κs : _) (x : _) (t : _) (s : _) → difference.Post κs x t s →
+    let p = x .0 in
+    let a = now (x .1 .0) in
+    let b = now (x .1 .1 .0) in
+    let room = now (x .1 .1 .1 .0) in
+    (t .number ≡ 0) ↔ ((firstOr (twoInputs p a b room) none .number ≡ 0) × (terms p (polyOf base a ++ negated p (polyOf base b)) ≤ records room))
+difference-done = differences.difference-done
+
+pub product-refuses : (κs : _) (x : _) (t : _) (s : _) → product.Post κs x t s →
+    let p = x .0 in
+    let a = now (x .1 .0) in
+    let b = now (x .1 .1 .0) in
+    let room = now (x .1 .1 .1 .0) in
+    let work = now (x .1 .1 .1 .1 .0) in
+    (n : Report) → 0 < n .number → n .number ≤ 8 → (t ≡ n) ↔ FirstDue (rules p a b room work) n
+product-refuses = products.product-refuses
+
+-- 9 exactly when M(a, v) + M(b, v) is over 32,767 for some v.
+pub product-bursts : (κs : _) (x : _) (t : _) (s : _) → product.Post κs x t s →
+    let p = x .0 in
+    let a = now (x .1 .0) in
+    let b = now (x .1 .1 .0) in
+    let room = now (x .1 .1 .1 .0) in
+    let work = now (x .1 .1 .1 .1 .0) in
+    (t .number ≡ 9) ↔ ((firstOr (rules p a b room work) none .number ≡ 0) × Bursts a b)
+product-bursts = products.product-bursts
+
+-- Else 10 exactly when the true product, after cancellation, has more terms than the room.
+pub product-full : (κs : _) (x : _) (t : _) (s : _) → product.Post κs x t s →
+    let p = x .0 in
+    let a = now (x .1 .0) in
+    let b = now (x .1 .1 .0) in
+    let room = now (x .1 .1 .1 .0) in
+    let work = now (x .1 .1 .1 .1 .0) in
+    (t .number ≡ 10) ↔ ((firstOr (rules p a b room work) none .number ≡ 0) × (Bursts a b → ⊥) × (records room < terms p (mul (polyOf base a) (polyOf base b))))
+product-full = products.product-full
+
+pub product-done : (κs : _) (x : _) (t : _) (s : _) → product.Post κs x t s →
+    let p = x .0 in
+    let a = now (x .1 .0) in
+    let b = now (x .1 .1 .0) in
+    let room = now (x .1 .1 .1 .0) in
+    let work = now (x .1 .1 .1 .1 .0) in
+    (t .number ≡ 0) ↔ ((firstOr (rules p a b room work) none .number ≡ 0) × (Bursts a b → ⊥) × (terms p (mul (polyOf base a) (polyOf base b)) ≤ records room))
+product-done = products.product-done
+
+pub division-refuses : (κs : _) (x : _) (t : _) (s : _) → divide.Post κs x t s →
+    let p = x .0 in
+    let f = now (x .1 .0) in
+    let g = now (x .1 .1 .0) in
+    let q = now (x .1 .1 .1 .0) in
+    let r = now (x .1 .1 .1 .1 .0) in
+    let work = now (x .1 .1 .1 .1 .1 .0) in
+    (n : Report) → 0 < n .number → n .number ≤ 8 → (t ≡ n) ↔ FirstDue (divideRules p f g q r work) n
+division-refuses = divisions.divide-refuses
+
+-- 0, 9, 10 and 11 are those of document 01's walk, told exactly when none of 1 to 8 is due.
+pub division-replies : (κs : _) (x : _) (t : _) (s : _) → divide.Post κs x t s →
+    let p = x .0 in
+    let f = now (x .1 .0) in
+    let g = now (x .1 .1 .0) in
+    let q = now (x .1 .1 .1 .0) in
+    let r = now (x .1 .1 .1 .1 .0) in
+    let work = now (x .1 .1 .1 .1 .1 .0) in
+    (n : ℕ) → (n ≡ 0) ⊎ (8 < n) → (t .number ≡ n) ↔ ((firstOr (divideRules p f g q r work) none .number ≡ 0) × (walkBy p (divisionJudges (polyOf base g) (records q) (records r)) (polyOf base f) (polyOf base g) .reply ≡ n))
+division-replies = divisions.divide-replies
+
+-- Where it ends with 9, 10 or 11: what remains, and why its greatest term gives that reply.
+pub division-stops : (κs : _) (x : _) (t : _) (s : _) → divide.Post κs x t s → 8 < t .number →
+    let p = x .0 in
+    let f = now (x .1 .0) in
+    let g = now (x .1 .1 .0) in
+    let q = now (x .1 .1 .1 .0) in
+    let r = now (x .1 .1 .1 .1 .0) in
+    let w = walkBy p (divisionJudges (polyOf base g) (records q) (records r)) (polyOf base f) (polyOf base g) in
+    (l : Left p (polyOf base f) (polyOf base g) w) × DivisionDue (polyOf base g) (lead g) (records q) (records r) (length (w .quotient)) (length (w .remainder)) (l .at .mon) (t .number)
+division-stops = divisions.divide-stops
+
+pub test-refuses : (κs : _) (x : _) (t : _) (s : _) → divides.Post κs x t s →
+    let p = x .0 in
+    let f = now (x .1 .0) in
+    let g = now (x .1 .1 .0) in
+    let q = now (x .1 .1 .1 .0) in
+    let work = now (x .1 .1 .1 .1 .0) in
+    (n : Report) → 0 < n .number → n .number ≤ 8 → (t ≡ n) ↔ FirstDue (testRules p f g q work) n
+test-refuses = tests.divides-refuses
+
+pub test-replies : (κs : _) (x : _) (t : _) (s : _) → divides.Post κs x t s →
+    let p = x .0 in
+    let f = now (x .1 .0) in
+    let g = now (x .1 .1 .0) in
+    let q = now (x .1 .1 .1 .0) in
+    let work = now (x .1 .1 .1 .1 .0) in
+    (n : ℕ) → (n ≡ 0) ⊎ (8 < n) → (t .number ≡ n) ↔ ((firstOr (testRules p f g q work) none .number ≡ 0) × (walkBy p (testJudges (polyOf base f) (polyOf base g) (records q)) (polyOf base f) (polyOf base g) .reply ≡ n))
+test-replies = tests.divides-replies
+
+pub test-stops : (κs : _) (x : _) (t : _) (s : _) → divides.Post κs x t s → 8 < t .number →
+    let p = x .0 in
+    let f = now (x .1 .0) in
+    let g = now (x .1 .1 .0) in
+    let q = now (x .1 .1 .1 .0) in
+    let w = walkBy p (testJudges (polyOf base f) (polyOf base g) (records q)) (polyOf base f) (polyOf base g) in
+    (l : Left p (polyOf base f) (polyOf base g) w) × TestDue (polyOf base f) (polyOf base g) (lead g) (records q) (length (w .quotient)) (l .at .mon) (t .number)
+test-stops = tests.divides-stops
