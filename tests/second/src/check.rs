@@ -1,0 +1,12 @@
+//! The check of one polynomial.
+
+use crate::refusals::Faults;
+use crate::report::{done, Report};
+
+/// Refuses 1 to 6; else reply 0, and "the check of a polynomial gives its term count first".
+pub fn check(p: u64, a: &[u64]) -> Report {
+    let mut faults = Faults::default();
+    faults.modulus(p);
+    faults.input(p, 1, a);
+    faults.least().unwrap_or(done(a.len() / 2, 0))
+}
