@@ -52,8 +52,8 @@ pub fn walk(p: u64, f: &Polynomial, g: &Polynomial, q_room: usize, r_room: usize
     while let Some(term) = greatest(&walk.remains) {
         // "If g's lead monomial divides it", the quotient gets "the term divided by g's lead term".
         walk.trouble = match divide_term(p, term, lead(g)) {
-            Some(quotient_term) => walk.to_quotient(p, quotient_term, g, q_room),
-            None => walk.to_remainder(term, r_room),
+            Some(quotient_term) => walk.put_in_quotient(p, quotient_term, g, q_room),
+            None => walk.move_to_remainder(term, r_room),
         };
         if walk.trouble.is_some() {
             break;
@@ -65,7 +65,13 @@ pub fn walk(p: u64, f: &Polynomial, g: &Polynomial, q_room: usize, r_room: usize
 impl Walk {
     /// "That quotient term times g is subtracted. First it is tried: 9 if its exponent of some v
     /// plus M(g, v) is over 32,767; otherwise 10 if the quotient room is full."
-    fn to_quotient(&mut self, p: u64, (m, c): Term, g: &Polynomial, room: usize) -> Option<u64> {
+    fn put_in_quotient(
+        &mut self,
+        p: u64,
+        (m, c): Term,
+        g: &Polynomial,
+        room: usize,
+    ) -> Option<u64> {
         if over(multiply(m, largest_exponents(g)), [LARGEST_EXPONENT; 4]) {
             return Some(9);
         }
@@ -82,7 +88,7 @@ impl Walk {
     }
 
     /// "The term moves to the remainder, or 11 if that room is full."
-    fn to_remainder(&mut self, (m, c): Term, room: usize) -> Option<u64> {
+    fn move_to_remainder(&mut self, (m, c): Term, room: usize) -> Option<u64> {
         if self.remainder.len() == room {
             return Some(11);
         }
