@@ -67,8 +67,8 @@ fn run(seed: u64, calls: u64) -> Result<Tally, String> {
     let mut tally = Tally::default();
     let moduli = Moduli::new(seed);
     sheet::run(seed, &moduli, &mut tally)?;
-    limits::run(seed, &mut tally)?;
-    pairs_of_faults(seed, &moduli, &mut tally)?;
+    limits::run(seed, &mut tally).map_err(|text| format!("largest sizes: {text}"))?;
+    pairs_of_faults(seed, &moduli, &mut tally).map_err(|text| format!("faults: {text}"))?;
     tally.join(random_calls(seed, &moduli, calls)?);
     Ok(tally)
 }
@@ -95,21 +95,19 @@ fn pairs_of_faults(seed: u64, moduli: &Moduli, tally: &mut Tally) -> Result<(), 
 
 /// The random calls, shared out to as many threads as there are processors.
 fn random_calls(seed: u64, moduli: &Moduli, calls: u64) -> Result<Tally, String> {
-    let threads = std::thread::available_parallelism().map_or(1, |n| n.get() as u64);
+    let threads = std::thread::available_parallelism().map_or(1, |n| n.get());
     let stop = &AtomicBool::new(false);
-    let shares = std::thread::scope(|scope| {
-        let start = |k| {
-            scope.spawn(move || share(seed, moduli, (k..calls).step_by(threads as usize), stop))
-        };
-        let started: Vec<_> = (0..threads).map(start).collect();
-        let join = |thread: std::thread::ScopedJoinHandle<_>| thread.join().expect("no panic");
-        started.into_iter().map(join).collect::<Vec<_>>()
-    });
-    let mut tally = Tally::default();
-    for share in shares {
-        tally.join(share?);
-    }
-    Ok(tally)
+    std::thread::scope(|scope| {
+        let shares: Vec<_> = (0..threads)
+            .map(|k| (k as u64..calls).step_by(threads))
+            .map(|numbers| scope.spawn(move || share(seed, moduli, numbers, stop)))
+            .collect();
+        let mut tally = Tally::default();
+        for share in shares {
+            tally.join(share.join().expect("a share without panic")?);
+        }
+        Ok(tally)
+    })
 }
 
 /// The random calls of some numbers, of every kind; each has random numbers of its own.

@@ -7,9 +7,10 @@ const SMALL: [u64; 8] = [2, 2, 3, 5, 7, 13, 101, 101];
 const MIDDLE: [u64; 5] = [251, 32_003, 46_337, 65_521, 65_537];
 const LARGE: [u64; 3] = [2_147_483_647, 2_147_483_629, 1_073_741_827];
 
-/// No primes in range: the ends of the range, squares of primes, Carmichael numbers, strong
-/// pseudoprimes to several bases, primes past the range, and numbers whose lower half is a prime.
-const BAD: [u64; 40] = [
+/// No primes in range: the ends of the range, squares of primes, Carmichael numbers with small
+/// factors and with large ones only, strong pseudoprimes to several bases,
+/// primes past the range, and numbers whose lower half is a prime.
+const BAD: [u64; 47] = [
     0,
     1,
     4,
@@ -32,6 +33,13 @@ const BAD: [u64; 40] = [
     41_041,
     825_265,
     321_197_185,
+    29_341,
+    46_657,
+    252_601,
+    56_052_361,
+    118_901_521,
+    1_299_963_601,
+    960_946_321,
     2_047,
     1_373_653,
     25_326_001,
