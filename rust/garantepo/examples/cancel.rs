@@ -1,75 +1,104 @@
-//! Cancels a candidate factor of two polynomials: divides both by it if it can, and prints the
-//! reduced pair, or says which of "no" and "no room" it met.
+//! Cancels a common factor: a fraction of two polynomials and a candidate factor of both. Where it
+//! divides both, the reduced fraction is printed; otherwise which of "no" and "no room" was met. The
+//! same program in C is `examples/cancel.c`.
 
-use garantepo::{balanced, divides, pack, reply, residue, unpack};
+use garantepo::{balanced, divides, pack, reply, residue, unpack, Report};
 
 const P: u64 = 101;
 
-/// How many terms a reduced polynomial may have here.
-const ROOM: usize = 16;
+/// The most terms that a quotient room may have.
+const ROOM: usize = 4_096;
 
 /// A coefficient and the exponents of x, y, z and t.
 type Term = (i32, [u64; 4]);
 
 fn main() {
-    let factor = [(2, [4, 0, 0, 0]), (3, [3, 0, 0, 0]), (4, [1, 0, 0, 0])];
-    let first = [
-        (2, [9, 0, 0, 0]),
-        (3, [8, 0, 0, 0]),
-        (10, [7, 0, 0, 0]),
-        (19, [6, 0, 0, 0]),
-        (34, [4, 0, 0, 0]),
-        (21, [3, 0, 0, 0]),
-        (28, [1, 0, 0, 0]),
-    ];
-    let second = [
-        (2, [4, 1, 0, 0]),
-        (-2, [4, 0, 0, 1]),
-        (3, [3, 1, 0, 0]),
-        (-3, [3, 0, 0, 1]),
-        (4, [1, 1, 0, 0]),
-        (-4, [1, 0, 0, 1]),
-    ];
-    show(&first, &second, &factor);
-    show(&factor, &first, &[(1, [1, 0, 0, 0]), (-1, [0, 1, 0, 0])]);
-    let power = |n| [(1, [n, 0, 0, 0]), (-1, [0; 4])];
-    show(&power(12), &power(60), &power(1));
+    both_divided();
+    only_one_divided();
+    quotient_too_long();
 }
 
-fn show(a: &[Term], b: &[Term], factor: &[Term]) {
-    let [a, b, factor] = [a, b, factor].map(polynomial);
-    let answer = match cancel(&a, &b, &factor) {
-        Ok((a, b)) => format!("{} and {}", readable(&a), readable(&b)),
-        Err(reply::NO) => "no".to_string(),
-        Err(reply::NO_ROOM) => "no room".to_string(),
-        Err(number) => format!("refused with {number}"),
-    };
-    let [a, b, factor] = [a, b, factor].map(|words| readable(&words));
-    println!("{a} and {b}\n  by {factor}: {answer}");
+/// Both are multiples of x^5+5*x^3+7.
+fn both_divided() {
+    let x = |e| [e, 0, 0, 0];
+    let xy = |e| [e, 1, 0, 0];
+    let high = [(2, x(9)), (3, x(8)), (10, x(7)), (19, x(6))];
+    let low = [(34, x(4)), (21, x(3)), (28, x(1))];
+    let with_y = [(1, xy(6)), (-1, x(5)), (5, xy(4))];
+    let rest = [(-5, x(3)), (7, xy(1)), (-7, x(0))];
+    cancel(
+        &[&high[..], &low].concat(),
+        &[with_y, rest].concat(),
+        &[(1, x(5)), (5, x(3)), (7, x(0))],
+    );
 }
 
-/// Both polynomials divided by the factor, or the first reply other than "yes".
-fn cancel(a: &[u64], b: &[u64], factor: &[u64]) -> Result<(Vec<u64>, Vec<u64>), u64> {
-    Ok((reduce(a, factor)?, reduce(b, factor)?))
+/// Only the first is a multiple of x*y-1.
+fn only_one_divided() {
+    let m = |x, y| [x, y, 0, 0];
+    cancel(
+        &[(1, m(2, 1)), (1, m(1, 2)), (-1, m(1, 0)), (-1, m(0, 1))],
+        &[(1, m(2, 1)), (1, m(1, 2)), (1, m(0, 2))],
+        &[(1, m(1, 1)), (-1, m(0, 0))],
+    );
 }
 
-fn reduce(a: &[u64], factor: &[u64]) -> Result<Vec<u64>, u64> {
+/// x-1 divides both, but the first quotient has 5,000 terms.
+fn quotient_too_long() {
+    let minus_one = |e| [(1, [e, 0, 0, 0]), (-1, [0; 4])];
+    cancel(&minus_one(5_000), &minus_one(3), &minus_one(1));
+}
+
+fn cancel(upper: &[Term], lower: &[Term], factor: &[Term]) {
+    let [upper, lower, factor] = [upper, lower, factor].map(words);
+    println!("{} by {}", fraction(&upper, &lower), readable(&factor));
+    let reduced = divide_out(&upper, &factor)
+        .map_err(|report| trouble("first", report))
+        .and_then(|upper| match divide_out(&lower, &factor) {
+            Ok(lower) => Ok(fraction(&upper, &lower)),
+            Err(report) => Err(trouble("second", report)),
+        });
+    match reduced {
+        Ok(text) | Err(text) => println!("  {text}"),
+    }
+}
+
+/// The quotient, or the report where the divide test didn't say yes.
+fn divide_out(f: &[u64], factor: &[u64]) -> Result<Vec<u64>, Report> {
     let mut quotient = vec![0; 2 * ROOM];
-    let mut work = [0; 4 * ROOM];
-    let report = divides(P, a, factor, &mut quotient, &mut work);
+    let mut work = vec![0; 4 * ROOM];
+    let report = divides(P, f, factor, &mut quotient, &mut work);
     if report.number != reply::DONE {
-        return Err(report.number);
+        return Err(report);
     }
     quotient.truncate(2 * report.first as usize);
     Ok(quotient)
 }
 
+fn trouble(which: &str, met: Report) -> String {
+    match met.number {
+        reply::NO => format!("no: the factor does not divide the {which} polynomial"),
+        reply::NO_ROOM => {
+            format!("no room: {ROOM} terms cannot hold a quotient of the {which} polynomial")
+        }
+        number => format!(
+            "refused: reply {number}, operand {}, term {}",
+            met.operand, met.index
+        ),
+    }
+}
+
 /// The words of a polynomial whose terms are given in falling order.
-fn polynomial(terms: &[Term]) -> Vec<u64> {
+fn words(terms: &[Term]) -> Vec<u64> {
     let record = |&(c, [x, y, z, t]): &Term| [pack(x, y, z, t).value, residue(P, c).value];
     terms.iter().flat_map(record).collect()
 }
 
+fn fraction(upper: &[u64], lower: &[u64]) -> String {
+    format!("({}) / ({})", readable(upper), readable(lower))
+}
+
+/// As 2*x^9-3*x^8+1, with balanced coefficients.
 fn readable(words: &[u64]) -> String {
     let terms: String = words.chunks_exact(2).map(readable_term).collect();
     match terms.strip_prefix('+').unwrap_or(&terms) {
