@@ -1,7 +1,7 @@
 //! The comparison of the engine with the second program.
 //!
-//! `compare [SEED [CALLS]]` runs the sheet of examples, the largest sizes, every pair of faults, and
-//! so many random calls of every kind. The first disagreement is printed whole and fails. So does a
+//! `compare [SEED [CALLS]]` runs the sheet of examples, every pair of faults, so many random calls of
+//! every kind, and the largest sizes. The first disagreement is printed whole and fails. So does a
 //! reply that a call can give and that no call gave.
 
 mod call;
@@ -67,9 +67,9 @@ fn run(seed: u64, calls: u64) -> Result<Tally, String> {
     let mut tally = Tally::default();
     let moduli = Moduli::new(seed);
     sheet::run(seed, &moduli, &mut tally)?;
-    limits::run(seed, &mut tally).map_err(|text| format!("largest sizes: {text}"))?;
     pairs_of_faults(seed, &moduli, &mut tally).map_err(|text| format!("faults: {text}"))?;
     tally.join(random_calls(seed, &moduli, calls)?);
+    limits::run(seed, &mut tally).map_err(|text| format!("largest sizes: {text}"))?;
     Ok(tally)
 }
 
