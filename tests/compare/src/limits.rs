@@ -5,6 +5,7 @@ use crate::compare::compare;
 use crate::polynomials::{dirty, full, words};
 use crate::rng::Rng;
 use crate::tally::Tally;
+use garantepo::Report;
 use second::polynomial::Polynomial;
 use second::refusals::{INPUT_TERMS, ROOM_TERMS};
 
@@ -12,7 +13,7 @@ pub fn run(seed: u64, tally: &mut Tally) -> Result<(), String> {
     let rng = &mut Rng::new(seed, u64::MAX - 2);
     largest_product(rng, tally)?;
     longest_quotient(rng, tally)?;
-    longest_room()?;
+    longest_rooms(tally)?;
     too_long_rooms(tally)
 }
 
@@ -42,38 +43,62 @@ fn longest_quotient(rng: &mut Rng, tally: &mut Tally) -> Result<(), String> {
 
 const X: [u64; 2] = [1 << 48, 1];
 
-/// A room of 16,777,216 terms is accepted, and cleared to its end.
-fn longest_room() -> Result<(), String> {
-    let mut given = vec![0; 2 * ROOM_TERMS];
-    let last = given.len() - 1;
-    given[last] = 7;
-    let report = garantepo::sum(101, &X, &X, &mut given);
-    let good = (report.number, report.first) == (0, 1);
-    if good && given[..2] == [1 << 48, 2] && given[2..].iter().all(|&word| word == 0) {
-        return Ok(());
+/// The calls that have a large room, and its operand.
+const LARGE_ROOMS: [(Kind, u64); 4] = [
+    (Kind::Sum, 3),
+    (Kind::Difference, 3),
+    (Kind::Product, 3),
+    (Kind::Divide, 4),
+];
+
+/// A call on x and x with a large room; a quotient and work array of one term have their own.
+fn on_x(kind: Kind, room: &mut [u64], quotient: &mut [u64], work: &mut [u64]) -> Report {
+    match kind {
+        Kind::Sum => garantepo::sum(101, &X, &X, room),
+        Kind::Difference => garantepo::difference(101, &X, &X, room),
+        Kind::Product => garantepo::product(101, &X, &X, room, work),
+        _ => garantepo::divide(101, &X, &X, quotient, room, work),
     }
-    Err("the longest room of a sum".to_string())
+}
+
+/// A room of 16,777,216 terms is accepted, and cleared to its end.
+fn longest_rooms(tally: &mut Tally) -> Result<(), String> {
+    let mut room = vec![0; 2 * ROOM_TERMS];
+    let last = room.len() - 1;
+    for (kind, _) in LARGE_ROOMS {
+        room[last] = 7;
+        let report = on_x(kind, &mut room, &mut [7; 2], &mut [7; 4]);
+        let result: &[u64] = match kind {
+            Kind::Sum => &[1 << 48, 2],
+            Kind::Product => &[2 << 48, 1],
+            _ => &[],
+        };
+        let (terms, rest) = room.split_at(result.len());
+        if report.number != 0 || terms != result || rest.iter().any(|&word| word != 0) {
+            return Err(format!("{kind:?} in the longest room: {report:?}"));
+        }
+        tally.add(kind, &[report.number, report.operand]);
+    }
+    Ok(())
 }
 
 /// One term more is reply 3. The room is one array of zero pages, which nobody may touch.
 fn too_long_rooms(tally: &mut Tally) -> Result<(), String> {
     let mut room = vec![0; 2 * (ROOM_TERMS + 1)];
-    let [quotient, work] = &mut [[7; 2], [7; 2]].map(|words| words.to_vec());
-    for kind in [Kind::Sum, Kind::Difference, Kind::Product, Kind::Divide] {
-        let report = match kind {
-            Kind::Sum => garantepo::sum(101, &X, &X, &mut room),
-            Kind::Difference => garantepo::difference(101, &X, &X, &mut room),
-            Kind::Product => garantepo::product(101, &X, &X, &mut room, work),
-            _ => garantepo::divide(101, &X, &X, quotient, &mut room, work),
+    for (kind, operand) in LARGE_ROOMS {
+        let (mut quotient, mut work) = ([7; 2], [7; 4]);
+        let report = on_x(kind, &mut room, &mut quotient, &mut work);
+        let refusal = Report {
+            number: 3,
+            operand,
+            ..Report::default()
         };
-        let operand = if kind == Kind::Divide { 4 } else { 3 };
-        let numbers = [report.number, report.operand, report.index];
-        if numbers != [3, operand, 0] || (report.first, report.second) != (0, 0) {
+        if report != refusal || quotient != [7; 2] || work != [7; 4] {
             return Err(format!("{kind:?} in a room that is too long: {report:?}"));
         }
-        tally.add(kind, &numbers);
+        tally.add(kind, &[report.number, report.operand]);
     }
-    if room.iter().any(|&word| word != 0) || *quotient != [7; 2] || *work != [7; 2] {
+    if room.iter().any(|&word| word != 0) {
         return Err("a room that is too long was changed".to_string());
     }
     Ok(())

@@ -117,8 +117,13 @@ pub fn dirty(rng: &mut Rng, length: usize) -> Vec<u64> {
     (0..length).map(|_| rng.word()).collect()
 }
 
-/// A room for a result of n terms: exact, one short, one more, shorter, much longer.
+/// A room for a result of n terms: exact, one short, one more, shorter, longer, and rarely longer than
+/// an input may be.
 pub fn room(rng: &mut Rng, n: usize) -> Vec<u64> {
+    if rng.one_in(1_000) {
+        let terms = INPUT_TERMS + rng.size(100);
+        return dirty(rng, 2 * terms);
+    }
     let terms = match rng.below(8) {
         0..=2 => n,
         3 => n.saturating_sub(1),
