@@ -74,7 +74,7 @@ same-divided a b e =
       work = same-words (a .work) (b .work) (w .1) i;
     }
 
-same-number : (m n : ℤ) → sameNumber m n ≡ true → m ≡ n
+pub same-number : (m n : ℤ) → sameNumber m n ≡ true → m ≡ n
 same-number (pos m) (pos n) e = ap pos (eqb-true m n e)
 same-number (pos m) (negsuc n) e = absurd (false≢true e)
 same-number (negsuc m) (pos n) e = absurd (false≢true e)

@@ -1,0 +1,2 @@
+-- What a case of the program has to leave.
+pub mod Cases
