@@ -3,6 +3,7 @@
 --   step-skips                        the monomial was cancelled
 --   quotient-word                     the quotient's word is a monomial, and the lead's times it is the one divided
 --   factors-small, row-asked          what the product of its coefficient and the new row ask for
+--   remainder-asked                   what a remainder term asks for
 --   step-stops-quotient, step-divides      the quotient term is refused; it is written, and its products wait
 --   step-stops-remainder, step-moves       the remainder term is refused; it is written
 use Prim.Native.Nat.{ℕ, zero, suc, _+_, _-_, _*_, _/_, _%_, _^_, _<_, _≤_, max}
@@ -249,13 +250,13 @@ module _ (p : ℕ) (f g : List ℕ) (plan : Plan) (R : Ready p f g plan) (q r w 
         stored : span q′ 0 (n + 1) ≡ span q 0 n ++ (term word number ∷ [])
         stored = ap (λ (s : List ℕ). span s 0 (n + 1)) (P .written) ∙ span-stored q n word number inside
 
-        pub step-divides : Stepped p f g plan q r w k q′ r w″ (state i′ (n + 1) j 0)
-        step-divides =
+        pub step-divides : (reply : ℕ) → reply ≡ 0 → Stepped p f g plan q r w k q′ r w″ (state i′ (n + 1) j reply)
+        step-divides reply z =
             record {
               quotient-long = long;
               remainder-long = refl;
               work-long = P .as-long ∙ H .as-long;
-              stops = λ x. absurd (x refl);
+              stops = λ x. absurd (x z);
               goes-on =
                   λ x. record {
                     live = P .live;
@@ -305,28 +306,23 @@ module _ (p : ℕ) (f g : List ℕ) (plan : Plan) (R : Ready p f g plan) (q r w 
           }
 
       module _ (e : remainderReply (plan .test) (plan .remainders) j ≡ 0) where
-        place : j < records r
-        place = omega (arith, remainder-room (plan .test) (plan .remainders) j e, W .remainders)
+        pub remainder-asked : j < records r
+        remainder-asked = omega (arith, remainder-room (plan .test) (plan .remainders) j e, W .remainders)
 
-        pub remainder-inside : 2 * j + 1 < length r
-        remainder-inside = omega (arith, place)
-
-        abbrev r′ : List ℕ
-        r′ = put r j (k - 1) c
-
+      module _ (e : remainderReply (plan .test) (plan .remainders) j ≡ 0) (r′ : List ℕ) (written : r′ ≡ put r j (k - 1) c) where
         r-long : length r′ ≡ length r
-        r-long = put-length r j (k - 1) c
+        r-long = ap length written ∙ put-length r j (k - 1) c
 
         r-stored : span r′ 0 (j + 1) ≡ span r 0 j ++ (term (k - 1) c ∷ [])
-        r-stored = span-stored r j (k - 1) c remainder-inside
+        r-stored = ap (λ (s : List ℕ). span s 0 (j + 1)) written ∙ span-stored r j (k - 1) c (omega (arith, remainder-asked e))
 
-        pub step-moves : Stepped p f g plan q r w k q r′ w′ (state i′ n (j + 1) 0)
-        step-moves =
+        pub step-moves : (reply : ℕ) → reply ≡ 0 → Stepped p f g plan q r w k q r′ w′ (state i′ n (j + 1) reply)
+        step-moves reply z =
             record {
               quotient-long = refl;
               remainder-long = r-long;
               work-long = H .as-long;
-              stops = λ x. absurd (x refl);
+              stops = λ x. absurd (x z);
               goes-on =
                   λ x. record {
                     live = H .live;
@@ -334,7 +330,7 @@ module _ (p : ℕ) (f g : List ℕ) (plan : Plan) (R : Ready p f g plan) (q r w 
                     remainders = W .remainders ∙ ap (λ (y : ℕ). y / 2) (sym r-long);
                     within = H .within;
                     quotient-within = W .quotient-within;
-                    remainder-within = omega (arith, place, ap (λ (y : ℕ). y / 2) r-long);
+                    remainder-within = omega (arith, remainder-asked e, ap (λ (y : ℕ). y / 2) r-long);
                     unwritten = λ y a b. H .empty y b (W .unwritten y a b);
                     idle = H .idle;
                     monomials = words .1;

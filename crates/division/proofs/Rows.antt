@@ -5,7 +5,7 @@
 --   row-alone              a divisor of one term leaves nothing to wait for
 --   rows-alike             what remains, less the new products, is what remains with the new row
 use Prim.Native.Nat.{ℕ, suc, _+_, _-_, _*_, _/_, _^_, _<_}
-use mathlib.Core.Path.{_≡_, refl, sym, _∙_, ap}
+use mathlib.Core.Path.{_≡_, refl, sym, _∙_, ap, subst}
 use mathlib.Core.List.{List, [], _++_, append-nil}
 use native.Mathlib.Omega.{arith}
 use lib.ListN.{length}
@@ -15,38 +15,47 @@ use Rattle.algebra.proofs.Residues.{same-eq}
 use Rattle.algebra.proofs.Totals.{total-append, equal-by}
 use Rattle.algebra.proofs.Ring.{total-negated}
 use Rattle.algebra.proofs.Sorted.{Alike, count-append, count-negated}
-use Rattle.poly.specs.Words.{records, wordAt, span}
+use Rattle.poly.specs.Words.{records, wordAt, numberAt, span}
 use Rattle.ring.specs.Tree.{left, Live, Added}
 use Rattle.ring.proofs.Records.{put, put-length, put-word, put-number}
 use Rattle.ring.proofs.Adding.{row-written}
 use Rattle.division.specs.Walking.{RowPut}
 
-module _ (g q w : List ℕ) (n word number k : ℕ) (h : n < records q) (empty : wordAt w (records q + n) ≡ 0) (l : Live q g w) where
-  abbrev next : List ℕ
-  next = put q n word number
-
+module _ (g q w : List ℕ) (n word number k : ℕ) (h : n < records q) (empty : wordAt w (records q + n) ≡ 0) (l : Live q g w) (next : List ℕ) (written : next ≡ put q n word number) where
   same : records next ≡ records q
-  same = ap (λ (x : ℕ). x / 2) (put-length q n word number)
+  same = ap records written ∙ ap (λ (x : ℕ). x / 2) (put-length q n word number)
 
   inside : 2 * n + 1 < length q
   inside = omega arith
 
+  new-word : wordAt next n ≡ word
+  new-word = ap (λ (s : List ℕ). wordAt s n) written ∙ put-word q n word number inside
+
+  new-number : numberAt next n ≡ number
+  new-number = ap (λ (s : List ℕ). numberAt s n) written ∙ put-number q n word number inside
+
+  live : Live next g w
+  live = subst (λ (s : List ℕ). Live s g w) (sym written) (row-written q g w n word number empty l .0)
+
+  waits : left q g w 0 (records q) ≡ left next g w 0 (records next)
+  waits = row-written q g w n word number empty l .1 ∙ ap (λ (s : List ℕ). left s g w 0 (records s)) (sym written)
+
   pub row-ready : records q < 2 ^ 32 → records g < 2 ^ 32 → 1 < records g → ((i : ℕ) → suc i < records g → wordAt g (suc i) < wordAt g i) → word + wordAt g 0 + 1 ≡ k → wordAt w 1 < k → ((n < records next) × (records next < 2 ^ 32) × (1 < records g) × (records g < 2 ^ 32)) × (((wordAt w (records next + n) ≡ 0) × (wordAt next n + wordAt g 1 + 1 < k) × (wordAt w 1 < k)) × Live next g w)
   row-ready few fewer some falls key root = (
     (omega (arith, same), omega (arith, same), some, fewer),
-    ((ap (λ x. wordAt w (x + n)) same ∙ empty, omega (arith, put-word q n word number inside, falls 0 some), root), row-written q g w n word number empty l .0),
+    ((ap (λ x. wordAt w (x + n)) same ∙ empty, omega (arith, new-word, falls 0 some), root), live),
   )
 
   pub row-more : (w′ : List ℕ) → Added next g n 1 k w w′ → RowPut g q w n word number k next w′
   row-more w′ a =
       record {
-        written = refl;
+        written = written;
         as-long = a .as-long;
         live = a .live;
         before = a .before;
         after = a .after;
-        was = row-written q g w n word number empty l .1 ∙ a .was;
-        becomes = a .becomes ∙ (λ d. a .before ++ (times (term (put-word q n word number inside d) (put-number q n word number inside d)) (span g 1 (records g - 1)) ++ a .after));
+        was = waits ∙ a .was;
+        becomes = a .becomes ∙ (λ d. a .before ++ (times (term (new-word d) (new-number d)) (span g 1 (records g - 1)) ++ a .after));
         others = λ x b k. ap (λ y. wordAt w′ (y + x)) (sym same) ∙ a .others x (omega (arith, same)) k ∙ ap (λ y. wordAt w (y + x)) same;
         lower = a .lower;
       }
@@ -55,14 +64,14 @@ module _ (g q w : List ℕ) (n word number k : ℕ) (h : n < records q) (empty :
   row-alone one root =
       let none : records g - 1 ≡ 0 = omega arith in
       record {
-        written = refl;
+        written = written;
         as-long = refl;
-        live = row-written q g w n word number empty l .0;
+        live = live;
         before = left q g w 0 (records q);
         after = [];
         was = sym (append-nil (left q g w 0 (records q)));
         becomes =
-            sym (row-written q g w n word number empty l .1)
+            sym waits
             ∙ sym (append-nil (left q g w 0 (records q)))
             ∙ ap (λ x. left q g w 0 (records q) ++ (times (term {K = Numbers} word number) (span g 1 x) ++ [])) (sym none);
         others = λ x b k. refl;

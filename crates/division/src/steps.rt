@@ -1,6 +1,7 @@
 // One step of the walk: the greatest monomial of what remains goes to the quotient or to the remainder, or was cancelled.
 ghost use mathlib.Core.Path.{_≡_};
-ghost use Prim.Native.Nat.{ℕ, suc, _+_, _<_, _^_, max};
+ghost use Prim.Native.Nat.{ℕ, suc, _+_, _*_, _<_, _^_, max};
+ghost use lib.ListN.{set};
 ghost use Rattle.poly.specs.Words.{records, wordAt};
 ghost use Rattle.ring.specs.Tree.{Live};
 ghost use Rattle.division.specs.Walking.{keyAt, Ready, Walking, RowPut, Stepped};
@@ -39,52 +40,31 @@ pub fn step(
     let n = s.quotient;
     let j = s.remainder;
     let h = take_head(p, f, g, q, work, s.next, k);
-    let next = h.next;
+    let mut t = State {
+        next: h.next,
+        quotient: n,
+        remainder: j,
+        reply: 0,
+    };
     if h.number == 0 {
-        return State {
-            next,
-            quotient: n,
-            remainder: j,
-            reply: 0,
-        };
+        return t;
     }
     let monomial = k - 1;
     if monomial::divides(g[0], monomial) {
         let word = monomial - g[0];
-        let reply = judge_quotient(plan, word, n);
-        if reply != 0 {
-            return State {
-                next,
-                quotient: n,
-                remainder: j,
-                reply,
-            };
+        t.reply = judge_quotient(plan, word, n);
+        if t.reply == 0 {
+            put_row(g, q, work, n, word, mul_mod(p, h.number, plan.inverse), k);
+            t.quotient = n + 1;
         }
-        put_row(g, q, work, n, word, mul_mod(p, h.number, plan.inverse), k);
-        return State {
-            next,
-            quotient: n + 1,
-            remainder: j,
-            reply: 0,
-        };
+        return t;
     }
-    let reply = judge_remainder(plan, j);
-    if reply != 0 {
-        return State {
-            next,
-            quotient: n,
-            remainder: j,
-            reply,
-        };
+    t.reply = judge_remainder(plan, j);
+    if t.reply == 0 {
+        put_term(r, j, monomial, h.number);
+        t.remainder = j + 1;
     }
-    r[2 * j] = monomial;
-    r[2 * j + 1] = h.number;
-    State {
-        next,
-        quotient: n,
-        remainder: j + 1,
-        reply: 0,
-    }
+    t
 }
 
 // Writes a quotient term and lets its products wait, from the divisor's second term on.
@@ -94,10 +74,18 @@ fn put_row(g: &[u64], q: &mut [u64], work: &mut [u64], n: usize, word: u64, numb
     requires { ⌜ Live (now q) (now g) (now work) ⌝ }
     ensures { λ r. ⌜ RowPut (now (g .entry)) (now (q .entry)) (now (work .entry)) n word number k (now (q .exit)) (now (work .exit)) ⌝ }
 {
-    q[2 * n] = word;
-    q[2 * n + 1] = number;
+    put_term(q, n, word, number);
     if g.len() / 2 == 1 {
         return;
     }
     add(q, g, work, n, 1, k);
+}
+
+// Writes record i of a room.
+fn put_term(s: &mut [u64], i: usize, word: u64, number: u64)
+    requires { ⌜ i < records (now s) ⌝ }
+    ensures { λ r. ⌜ now (s .exit) ≡ set (set (now (s .entry)) (2 * i) word) (2 * i + 1) number ⌝ }
+{
+    s[2 * i] = word;
+    s[2 * i + 1] = number;
 }

@@ -1,40 +1,21 @@
 -- `division::steps::put_row` meets its contract.
 use native.Mathlib.Omega.{arith}
-use lib.ListN.{length-set}
 use Rattle.division.proofs.Rows.{row-ready, row-more, row-alone}
 use borrow.Author.Needs.{needs}
 use Rattle.division.proofs.steps.put_row.Statement.{statement}
 use Rattle.division.proofs.steps.put_row.Tie as tie
 
-mul-q : tie.Need-mul-q
-mul-q c = search needs
-
-mul-q-2 : tie.Need-mul-q-2
-mul-q-2 c = search needs
-
-slice-write-q : tie.Need-slice-write-q
-slice-write-q c = search needs
-
-mul-q-3 : tie.Need-mul-q-3
-mul-q-3 c = search needs
-
-add-q : tie.Need-add-q
-add-q c = search needs
-
-mul-q-4 : tie.Need-mul-q-4
-mul-q-4 c = search needs
-
-slice-write-q-2 : tie.Need-slice-write-q-2
-slice-write-q-2 c = simp length-set (omega arith)
+put-term-requires : tie.Need-put-term-requires
+put-term-requires c κs = search needs
 
 same-length : tie.Need-same-length
 same-length c = search needs
 
 returns : tie.Need-returns
-returns c = let s = c .before .before .before .before .pre in row-alone _ _ _ _ _ (c .before .before .before .before .args .number) _ (s .0 .0) (s .1 .0 .0) (s .1 .1) (c .if1 .taken) (s .1 .0 .2)
+returns c = let s = c .before .before .before .before .before .before .before .before .pre in row-alone _ _ _ _ _ _ _ (s .0 .0) (s .1 .0 .0) (s .1 .1) _ (c .before .before .before .put-term .ensures) (c .if1 .taken) (s .1 .0 .2)
 
 add-requires : tie.Need-add-requires
-add-requires c κs = let s = c .before .before .before .before .before .before .pre in row-ready _ _ _ _ _ (c .before .before .before .before .before .before .args .number) _ (s .0 .0) (s .1 .0 .0) (s .1 .1) (s .0 .1) (s .0 .3) (omega arith) (s .0 .4) (s .1 .0 .1) (s .1 .0 .2)
+add-requires c κs = let s = c .before .before .before .before .before .before .before .before .before .before .pre in row-ready _ _ _ _ _ _ _ (s .0 .0) (s .1 .0 .0) (s .1 .1) _ (c .before .before .before .before .before .put-term .ensures) (s .0 .1) (s .0 .3) (omega arith) (s .0 .4) (s .1 .0 .1) (s .1 .0 .2)
 
 same-length-2 : tie.Need-same-length-2
 same-length-2 c = search needs
@@ -43,19 +24,13 @@ same-length-3 : tie.Need-same-length-3
 same-length-3 c = search needs
 
 returns-2 : tie.Need-returns-2
-returns-2 c = let s = c .before .before .before .before .before .before .before .before .before .pre in row-more _ _ _ _ _ (c .before .before .before .before .before .before .before .before .before .args .number) _ (s .0 .0) (s .1 .0 .0) (s .1 .1) _ (c .before .before .add .ensures)
+returns-2 c = let s = c .before .before .before .before .before .before .before .before .before .before .before .before .before .pre in row-more _ _ _ _ _ _ _ (s .0 .0) (s .1 .0 .0) (s .1 .1) _ (c .before .before .before .before .before .before .before .before .put-term .ensures) _ (c .before .before .add .ensures)
 
 pub put-row-spec : {M : Type 1} → statement M
 put-row-spec =
     tie.close
     (tie.spec
-    mul-q
-    mul-q-2
-    slice-write-q
-    mul-q-3
-    add-q
-    mul-q-4
-    slice-write-q-2
+    put-term-requires
     same-length
     returns
     add-requires
