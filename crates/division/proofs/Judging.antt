@@ -2,11 +2,12 @@
 --
 --   maxima-exponent, maxima-fits      the largest exponents as one monomial; of a valid slice it fits
 --   packed                 packing the exponents of a profile gives the word of the maxima
+--   prepared               a plan with the words and the inverse of good inputs is ready
 --   divisor-monomial       the word of the divisor's maxima is a monomial
 --   reply-word             what a judge says of a quotient term, by its word
 --   remainder-reply, remainder-room      the same of a remainder term
 --   by-passes, passes-room, passes-fits      where a quotient term passes there is room, and its products with the divisor's terms fit
-use Prim.Native.Nat.{ℕ, zero, suc, _+_, _≤_, _<_}
+use Prim.Native.Nat.{ℕ, zero, suc, _+_, _^_, _≤_, _<_}
 use mathlib.Core.Path.{_≡_, refl, sym, _∙_, ap}
 use mathlib.Core.Bool.{Bool, true, false}
 use mathlib.Core.List.{List}
@@ -15,17 +16,18 @@ use native.Mathlib.Omega.{arith}
 use lib.Dec.{ltb}
 use lib.ListN.{getD}
 use borrow.Author.Tests.{ltb-true}
-use Rattle.algebra.specs.Residues.{pick}
+use Rattle.algebra.specs.Residues.{Prime, inverse, pick}
 use Rattle.algebra.specs.Monomials.{Letters, exponent}
 use Rattle.algebra.specs.Orders.{exponent-adds}
 use Rattle.algebra.specs.Polynomials.{Term, term, Poly, largest}
+use Rattle.field.specs.Moduli.{limit}
 use Rattle.field.specs.Answers.{value, noValue}
 use Rattle.field.specs.declared.Value.{Value}
 use Rattle.monomial.specs.Answers.{packOf}
 use Rattle.monomial.specs.Layout.{base, isMonomial, divides}
 use Rattle.monomial.proofs.Fields.{fits-letters, exponent-none, divides-fits}
 use Rattle.monomial.proofs.Laws.{read, write, fit, word-monomial, word-read, sum-monomial, sum-divides}
-use Rattle.poly.specs.Words.{records, wordAt, polyOf}
+use Rattle.poly.specs.Words.{records, wordAt, numberAt, polyOf}
 use Rattle.poly.specs.Valid.{Valid}
 use Rattle.poly.proofs.Readings.{weight-within}
 use Rattle.poly.specs.Services.{measureOf}
@@ -54,6 +56,24 @@ packed s m e h v f =
     let x = exponents-of s e in
     ap (λ (y : Value). y .value) (f ∙ (λ d. packOf base (x 0 (omega arith) d, (x 1 (omega arith) d, (x 2 (omega arith) d, (x 3 (omega arith) d, tt))))) ∙ (λ d. pick (h d) (value (write base (maxima (polyOf base s)))) (noValue 4)))
 
+-- what a plan has to be for a walk, the inputs being good
+pub prepared : (p : ℕ) (f g : List ℕ) (plan : Plan) → (Prime p × (p ≤ limit) × (0 < records g) × (records g < 2 ^ 32)) → Valid p f × Valid p g → plan .inverse ≡ inverse p (numberAt g 0) → plan .divisor ≡ write base (maxima (polyOf base g)) → (plan .test ≡ true → plan .dividend ≡ write base (maxima (polyOf base f))) → Ready p f g plan
+prepared p f g plan s valid inverted divisor dividend =
+    record {
+      prime = s .0;
+      positive = omega (arith, s .0 .two);
+      within = s .1;
+      dividend = valid .0;
+      divisor = valid .1;
+      some = s .2;
+      few = s .3;
+      inverted = inverted;
+      divisor-word = divisor;
+      divisor-fits = maxima-fits p g (valid .1);
+      dividend-word = dividend;
+      dividend-fits = maxima-fits p f (valid .0);
+    }
+
 -- a judge's reply is 0 only where its first test passes and there is room
 pick-zero : (t : Bool) (x n : ℕ) → 0 < n → pick t x n ≡ 0 → (t ≡ true) × (x ≡ 0)
 pick-zero true x n h e = (refl, e)
@@ -63,14 +83,14 @@ full-zero : (i room n : ℕ) → 0 < n → unlessFull i room n ≡ 0 → i < roo
 full-zero i room n h e = ltb-true i room (pick-zero (ltb i room) 0 n h e .0)
 
 module _ (f g : Poly (Letters 4)) (q r : ℕ) where
-  by-word : (b : Bool) (word i c divisor dividend : ℕ) → isMonomial base word ≡ true → fit base (maxima g) ≡ true → fit base (maxima f) ≡ true → divisor ≡ write base (maxima g) → dividend ≡ write base (maxima f) → judgesBy b f g q r .onQuotient i (term (read base word) c) ≡ quotientReply b divisor dividend q word i
+  by-word : (b : Bool) (word i c divisor dividend : ℕ) → isMonomial base word ≡ true → fit base (maxima g) ≡ true → fit base (maxima f) ≡ true → divisor ≡ write base (maxima g) → (b ≡ true → dividend ≡ write base (maxima f)) → judgesBy b f g q r .onQuotient i (term (read base word) c) ≡ quotientReply b divisor dividend q word i
   by-word true word i c divisor dividend h fg ff eg ef =
       let d = write base (maxima g) in
       let n = write base (maxima f) in
       ap (λ t. pick t (unlessFull i q 10) 12)
       ((λ x. divides 4 (Letters 4 .mul (read base word) (sym (word-read base (maxima g) fg) x)) (sym (word-read base (maxima f) ff) x))
       ∙ sym (sum-divides base word d n h (word-monomial base (maxima g) fg) (word-monomial base (maxima f) ff)))
-      ∙ (λ x. quotientReply true (sym eg x) (sym ef x) q word i)
+      ∙ (λ x. quotientReply true (sym eg x) (sym (ef refl) x) q word i)
   by-word false word i c divisor dividend h fg ff eg ef =
       let d = write base (maxima g) in
       ap (λ t. pick t (unlessFull i q 10) 9)

@@ -74,7 +74,7 @@ pub record Ready (p : ℕ) (f g : List ℕ) (plan : Plan) : Type 0 where
   pub inverted : plan .inverse ≡ inverse p (numberAt g 0)
   pub divisor-word : plan .divisor ≡ wordOf 16 4 (maxima (polyOf base g))
   pub divisor-fits : fits 16 4 (maxima (polyOf base g)) ≡ true
-  pub dividend-word : plan .dividend ≡ wordOf 16 4 (maxima (polyOf base f))
+  pub dividend-word : plan .test ≡ true → plan .dividend ≡ wordOf 16 4 (maxima (polyOf base f))
   pub dividend-fits : fits 16 4 (maxima (polyOf base f)) ≡ true
 
 -- all of the walk, and a walk on from what remains

@@ -13,8 +13,8 @@ use field::inverse_mod;
 use monomial::pack;
 use poly::profile::measure;
 
-// Whether the call is the divide test; the words of the largest exponents of divisor and dividend; the inverse of the divisor's
-// lead coefficient; the terms that the rooms can hold.
+// Whether the call is the divide test; the words of the largest exponents of divisor and dividend, the second 0 where no test reads
+// it; the inverse of the divisor's lead coefficient; the terms that the rooms can hold.
 pub struct Plan {
     pub test: bool,
     pub divisor: u64,
@@ -37,17 +37,18 @@ pub fn prepare(
     requires { ⌜ (Valid p (now f)) × (Valid p (now g)) ⌝ }
     ensures { λ r. ⌜ (Ready p (now (f .entry)) (now (g .entry)) r) × (r .test ≡ test) × (r .quotients ≡ quotients) × (r .remainders ≡ remainders) ⌝ }
 {
-    let divisor = largest_word(g);
-    let dividend = largest_word(f);
-    let inverse = inverse_mod(p, g[1]);
-    Plan {
+    let mut plan = Plan {
         test,
-        divisor,
-        dividend,
-        inverse,
+        divisor: largest_word(g),
+        dividend: 0,
+        inverse: inverse_mod(p, g[1]),
         quotients,
         remainders,
+    };
+    if test {
+        plan.dividend = largest_word(f);
     }
+    plan
 }
 
 // The word of the largest exponents of a polynomial.
