@@ -1,6 +1,6 @@
 -- What a walk leaves behind, in the rooms and in the report.
 --
---   call-starts            over cleared rooms and work a walk may start
+--   call-starts            over a cleared quotient room a walk may start
 --   same-walk              the walk of a plan is the walk of the call
 --   room-filled            records that are monomials, and zero words behind them, are the words of their polynomial
 --   division-stopped, division-done    a division that a judge stopped, and one that came to its end
@@ -8,12 +8,12 @@
 --   all-zero, zero-long, tail-long     of a room that was cleared, from its front or behind its terms
 --   division-starts, division-refused, division-finished    a division from its start to its ends
 --   test-starts, test-refused, test-finished                a divide test
-use Prim.Native.Nat.{ℕ, zero, suc, _+_, _-_, _*_, _/_, _≤_}
-use mathlib.Core.Path.{_≡_, refl, sym, _∙_, ap, subst}
+use Prim.Native.Nat.{ℕ, _+_, _-_, _*_, _/_, _<_, _≤_}
+use mathlib.Core.Path.{_≡_, refl, sym, _∙_, ap}
 use mathlib.Core.Bool.{Bool, true, false}
 use mathlib.Core.List.{List, [], _∷_, _++_, append-nil}
 use native.Mathlib.Omega.{arith}
-use lib.ListN.{length, take, replicate, length-append, length-take, length-replicate}
+use lib.ListN.{length, getD, take, replicate, length-append, length-take, length-replicate}
 use borrow.Author.Tests.{eq-eqb, ne-eqb}
 use Rattle.algebra.specs.Residues.{pick}
 use Rattle.algebra.specs.Monomials.{Letters}
@@ -29,32 +29,23 @@ use Rattle.poly.proofs.Readings.{flat, decodedPoly, flat-coded, flat-span, leng
 use Rattle.ring.specs.Outcomes.{Outcome, outcome, cleared}
 use Rattle.ring.proofs.Products.{all-cleared}
 use Rattle.division.specs.Calls.{divisionJudges, testJudges, walkBy, Divided, divided, afterDivision, afterTest}
-use Rattle.division.specs.Walking.{judgesBy, Ready, whole, Walking, Fresh, Ran}
+use Rattle.division.specs.Walking.{judgesBy, Ready, whole, Fresh, Ran}
 use Rattle.division.specs.declared.plan.Plan.{Plan}
 use Rattle.division.specs.declared.steps.State.{State}
 use Rattle.division.proofs.Seen.{Monomial}
-use Rattle.division.proofs.Runs.{walk-starts}
+use Rattle.division.proofs.Runs.{zero-words}
 
-take-zeros : (n m : ℕ) → n ≤ m → take n (replicate {A = ℕ} m 0) ≡ replicate n 0
-take-zeros zero m h = refl
-take-zeros (suc n) zero h = absurd (omega arith)
-take-zeros (suc n) (suc m) h = ap (λ (x : List ℕ). 0 ∷ x) (take-zeros n m (omega arith))
-
-pub call-starts : (p : ℕ) (f g : List ℕ) (plan : Plan) → Ready p f g plan → (q r w q′ r′ w′ : List ℕ) → q′ ≡ cleared q → r′ ≡ cleared r → w′ ≡ cleared w → plan .quotients ≡ records q′ → plan .remainders ≡ records r′ → records q ≤ inputTerms → 4 * records q ≤ length w → Fresh p f g plan q′ r′ w′
-call-starts p f g plan R q r w q′ r′ w′ eq er ew room other few long =
-    record { quotients = room; long = omega (arith, same, ap length ew, length-replicate {A = ℕ} (length w) 0); few = omega (arith, same); starts = starts }
-  where
-    same : records q′ ≡ records q
-    same = ap records eq ∙ ap (λ (x : ℕ). x / 2) (length-replicate (length q) 0)
-
-    starts : (n : ℕ) → n ≤ records q′ → Walking p f g plan (take (2 * n) q′) r′ w′ 0 0 0
-    starts n h =
-        let rows : take (2 * n) q′ ≡ replicate (2 * n) 0 = ap (take (2 * n)) eq ∙ take-zeros (2 * n) (length q) (omega (arith, same)) in
-        let count : length (replicate {A = ℕ} (2 * n) 0) ≡ 2 * n = length-replicate (2 * n) 0 in
-        subst (λ (x : List ℕ). Walking p f g plan x r′ w′ 0 0 0) (sym rows)
-        (subst (λ (x : List ℕ). Walking p f g plan (replicate (2 * n) 0) x w′ 0 0 0) (sym er)
-        (subst (λ (x : List ℕ). Walking p f g plan (replicate (2 * n) 0) (cleared r) x 0 0 0) (sym ew)
-        (walk-starts p f g plan R (2 * n) (length r) (length w) (other ∙ ap records er) (omega (arith, same)) (omega (arith, same)))))
+pub call-starts : (p : ℕ) (plan : Plan) → 0 < p → (q r w q′ : List ℕ) → q′ ≡ cleared q → plan .quotients ≡ records q′ → plan .remainders ≡ records r → records q ≤ inputTerms → 4 * records q ≤ length w → Fresh p plan q′ r w
+call-starts p plan pos q r w q′ eq room other few long =
+    let same : records q′ ≡ records q = ap records eq ∙ ap (λ (x : ℕ). x / 2) (length-replicate (length q) 0) in
+    let blank : (i : ℕ) → getD q′ i 0 ≡ 0 = λ i. ap (λ (x : List ℕ). getD x i 0) eq ∙ zero-words (length q) i in
+    record {
+      quotients = room;
+      remainders = other;
+      long = omega (arith, same);
+      few = omega (arith, same);
+      small = λ x h. (omega (arith, blank (2 * x)), omega (arith, blank (2 * x + 1)));
+    }
 
 pub same-walk : (p : ℕ) (f g : List ℕ) (plan : Plan) (test : Bool) (n m : ℕ) → plan .test ≡ test → plan .quotients ≡ n → plan .remainders ≡ m → whole p f g plan ≡ walkBy p (judgesBy test (polyOf base f) (polyOf base g) n m) (polyOf base f) (polyOf base g)
 same-walk p f g plan test n m et en em =
@@ -137,34 +128,33 @@ module _ (s s₁ s₂ : List ℕ) (e : length s₁ ≡ length s) where
         length-replicate {A = ℕ} (length s₁ - 2 * n) 0,
       )
 
--- A call from its start to its end: the rooms and the work are cleared, the walk runs, and the work is cleared again.
+-- A call from its start to its end: the quotient room is cleared, the walk runs, and the work is cleared.
 
-module _ (p : ℕ) (f g : List ℕ) (plan : Plan) (q r w q₁ r₁ w₁ : List ℕ) (cq : q₁ ≡ take 0 q ++ replicate (length q - 0) 0) (cr : r₁ ≡ take 0 r ++ replicate (length r - 0) 0) (cw : w₁ ≡ take 0 w ++ replicate (length w - 0) 0) (en : plan .quotients ≡ records q₁) (em : plan .remainders ≡ records r₁) where
-  pub division-starts : Ready p f g plan → records q ≤ inputTerms → 4 * records q ≤ length w → Fresh p f g plan q₁ r₁ w₁
-  division-starts R few long =
-      call-starts p f g plan R q r w q₁ r₁ w₁ (all-zero q q q₁ refl cq) (all-zero r r r₁ refl cr) (all-zero w w w₁ refl cw) en em few long
+module _ (p : ℕ) (f g : List ℕ) (plan : Plan) (q r w q₁ : List ℕ) (cq : q₁ ≡ take 0 q ++ replicate (length q - 0) 0) (en : plan .quotients ≡ records q₁) (em : plan .remainders ≡ records r) where
+  pub division-starts : Ready p f g plan → records q ≤ inputTerms → 4 * records q ≤ length w → Fresh p plan q₁ r w
+  division-starts R few long = call-starts p plan (R .positive) q r w q₁ (all-zero q q q₁ refl cq) en em few long
 
-  module _ (et : plan .test ≡ false) (q₂ r₂ w₂ : List ℕ) (s : State) (N : Ran p f g plan q₁ r₁ w₁ q₂ r₂ w₂ s) where
+  module _ (et : plan .test ≡ false) (q₂ r₂ w₂ : List ℕ) (s : State) (N : Ran p f g plan q₁ r w q₂ r₂ w₂ s) where
     pub quotient-long : length q₂ ≡ length q
     quotient-long = N .quotient-long ∙ zero-long q q q₁ refl cq
 
     pub remainder-long : length r₂ ≡ length r
-    remainder-long = N .remainder-long ∙ zero-long r r r₁ refl cr
+    remainder-long = N .remainder-long
 
     pub work-long : length w₂ ≡ length w
-    work-long = N .work-long ∙ zero-long w w w₁ refl cw
+    work-long = N .work-long
 
     abbrev walked : Walked (Letters 4)
     walked = walkBy p (divisionJudges (polyOf base g) (records q) (records r)) (polyOf base f) (polyOf base g)
 
     same : whole p f g plan ≡ walked
     same =
-        same-walk p f g plan false (records q) (records r) et (en ∙ ap (λ (x : ℕ). x / 2) (zero-long q q q₁ refl cq)) (em ∙ ap (λ (x : ℕ). x / 2) (zero-long r r r₁ refl cr))
+        same-walk p f g plan false (records q) (records r) et (en ∙ ap (λ (x : ℕ). x / 2) (zero-long q q q₁ refl cq)) em
 
     pub counts-within : s .reply ≡ 0 → (s .quotient ≤ records q) × (s .remainder ≤ records r)
     counts-within z = (
       omega (arith, N .quotient-within z, ap (λ (x : ℕ). x / 2) (zero-long q q q₁ refl cq)),
-      omega (arith, N .remainder-within z, ap (λ (x : ℕ). x / 2) (zero-long r r r₁ refl cr)),
+      N .remainder-within z,
     )
 
     module _ (q₃ r₃ w₃ : List ℕ) (t : Report) (dw : w₃ ≡ take 0 w₂ ++ replicate (length w₂ - 0) 0) where
@@ -189,17 +179,16 @@ module _ (p : ℕ) (f g : List ℕ) (plan : Plan) (q r w q₁ r₁ w₁ : List �
 
 -- The divide test has no room for a remainder, and never writes one.
 
-module _ (p : ℕ) (f g : List ℕ) (plan : Plan) (q w q₁ w₁ : List ℕ) (cq : q₁ ≡ take 0 q ++ replicate (length q - 0) 0) (cw : w₁ ≡ take 0 w ++ replicate (length w - 0) 0) (en : plan .quotients ≡ records q₁) where
-  pub test-starts : Ready p f g plan → plan .remainders ≡ 0 → records q ≤ inputTerms → 4 * records q ≤ length w → Fresh p f g plan q₁ (0 ∷ []) w₁
-  test-starts R none few long =
-      call-starts p f g plan R q (0 ∷ []) w q₁ (0 ∷ []) w₁ (all-zero q q q₁ refl cq) refl (all-zero w w w₁ refl cw) en none few long
+module _ (p : ℕ) (f g : List ℕ) (plan : Plan) (q w q₁ : List ℕ) (cq : q₁ ≡ take 0 q ++ replicate (length q - 0) 0) (en : plan .quotients ≡ records q₁) where
+  pub test-starts : Ready p f g plan → plan .remainders ≡ 0 → records q ≤ inputTerms → 4 * records q ≤ length w → Fresh p plan q₁ (0 ∷ []) w
+  test-starts R none few long = call-starts p plan (R .positive) q (0 ∷ []) w q₁ (all-zero q q q₁ refl cq) en none few long
 
-  module _ (et : plan .test ≡ true) (r q₂ r₂ w₂ : List ℕ) (s : State) (N : Ran p f g plan q₁ r w₁ q₂ r₂ w₂ s) where
+  module _ (et : plan .test ≡ true) (r q₂ r₂ w₂ : List ℕ) (s : State) (N : Ran p f g plan q₁ r w q₂ r₂ w₂ s) where
     pub test-quotient-long : length q₂ ≡ length q
     test-quotient-long = N .quotient-long ∙ zero-long q q q₁ refl cq
 
     pub test-work-long : length w₂ ≡ length w
-    test-work-long = N .work-long ∙ zero-long w w w₁ refl cw
+    test-work-long = N .work-long
 
     abbrev tested : Walked (Letters 4)
     tested = walkBy p (testJudges (polyOf base f) (polyOf base g) (records q)) (polyOf base f) (polyOf base g)

@@ -6,7 +6,7 @@
 --   runs-first           the first tree
 --   rows-asked           what growing asks
 --   Grew, grows-on       the tree after it grew, where a quotient term may be written as far as the room goes
---   runs-on, runs-ended, runs-stopped     after a step: the loop goes on, or ends
+--   runs-on, runs-ended, runs-stopped     after a step: the loop goes on, or ends; its work was as long as v
 use Prim.Native.Nat.{ℕ, zero, suc, _+_, _-_, _*_, _/_, _^_, _<_, _≤_, max}
 use mathlib.Core.Path.{_≡_, refl, sym, _∙_, ap, subst}
 use mathlib.Core.List.{List, [], _∷_, _++_}
@@ -25,11 +25,11 @@ use Rattle.poly.specs.Words.{records, wordAt, numberAt, termAt, terms, span}
 use Rattle.poly.proofs.Readings.{decodedPoly}
 use Rattle.ring.specs.Tree.{Grown}
 use Rattle.ring.proofs.Growing.{Front, grown-live, grown-left, grown-root}
-use Rattle.division.specs.Walking.{keyAt, rest, seen, judgesOf, whole, walkOn, Walking, Fresh, Stepped, Enough, Ran}
+use Rattle.division.specs.Walking.{keyAt, rest, seen, judgesOf, whole, walkOn, Ready, Walking, Fresh, Stepped, Enough, Ran}
 use Rattle.division.specs.declared.plan.Plan.{Plan}
 use Rattle.division.specs.declared.steps.State.{State}
 use Rattle.division.proofs.Seen.{Monomial}
-use Rattle.division.proofs.Runs.{rest-none}
+use Rattle.division.proofs.Runs.{rest-none, walk-starts}
 
 -- The front of a room
 
@@ -142,29 +142,30 @@ module _ (p : ℕ) (f g : List ℕ) (plan : Plan) (q r w w′ : List ℕ) (n m i
 
 -- The loop
 
-module _ (p : ℕ) (f g : List ℕ) (plan : Plan) (q r w : List ℕ) (F : Fresh p f g plan q r w) (k : ℕ) (top : k ≡ max (keyAt f 0) (wordAt w 1)) where
-  pub runs-first : (rows : ℕ) → rows ≤ records q → (0 < records q → 0 < rows) → Running p f g plan q r w q r w rows (record { next = 0; quotient = 0; remainder = 0; reply = 0 }) k
-  runs-first rows h some =
-      record {
-        quotient-long = refl;
-        remainder-long = refl;
-        work-long = refl;
-        goes = refl;
-        top = top;
-        room = F .quotients;
-        long = F .long;
-        few = F .few;
-        within = h;
-        some = some;
-        small =
-            λ x l.
-            let all : records q ≤ records q = omega arith in
-            let S = F .starts (records q) all .sides in
-            let here : x < records (take (2 * records q) q) = omega (arith, rows-count q (records q) all) in
-            let e = rows-words q (records q) all x l in
-            (omega (arith, e .0, S .rows-words x here), omega (arith, e .1, S .rows-numbers x here));
-        walking = F .starts rows h;
-      }
+pub runs-first : (p : ℕ) (f g : List ℕ) (plan : Plan) → Ready p f g plan → (q r w₀ w : List ℕ) → Fresh p plan q r w₀ → (k : ℕ) → k ≡ max (keyAt f 0) (wordAt w 1) → (m rows : ℕ) → (length w ≡ length w₀) × ((i : ℕ) → i < m → getD w i 0 ≡ 0) → 2 < m → 4 * rows ≤ m → rows ≤ records q → (0 < records q → 0 < rows) → Running p f g plan q r w q r w rows (record { next = 0; quotient = 0; remainder = 0; reply = 0 }) k
+runs-first p f g plan R q r w₀ w F k top m rows blank root front h some =
+    let count = rows-count q rows h in
+    record {
+      quotient-long = refl;
+      remainder-long = refl;
+      work-long = refl;
+      goes = refl;
+      top = top;
+      room = F .quotients;
+      long = omega (arith, F .long, blank .0);
+      few = F .few;
+      within = h;
+      some = some;
+      small = F .small;
+      walking =
+          walk-starts p f g plan R (take (2 * rows) q) r w (F .remainders) (omega (arith, count, F .few))
+          (λ x l. let e = rows-words q rows h x (omega (arith, count)) in let s = F .small x (omega (arith, count)) in (omega (arith, e .0, s .0), omega (arith, e .1, s .1)))
+          (omega (arith, count, F .long, blank .0))
+          m
+          (blank .1)
+          (omega (arith, count))
+          root;
+    }
 
 module _ (p : ℕ) (f g : List ℕ) (plan : Plan) (q₀ r₀ w₀ q r w : List ℕ) (rows : ℕ) (s : State) (k : ℕ) (L : Running p f g plan q₀ r₀ w₀ q r w rows s k) where
   pub rows-asked : (rows ≤ records q₀) × (0 < records q₀ → 0 < rows) × (4 * records q₀ ≤ length w)
@@ -175,8 +176,8 @@ module _ (p : ℕ) (f g : List ℕ) (plan : Plan) (q₀ r₀ w₀ q r w : List �
   taken-within : s .quotient ≤ rows
   taken-within = omega (arith, L .walking .quotient-within, rows-count q rows (L .within))
 
-  pub runs-ended : k ≤ 0 → Ran p f g plan q₀ r₀ w₀ q r w s
-  runs-ended z =
+  pub runs-ended : (v : List ℕ) → length w₀ ≡ length v → k ≤ 0 → Ran p f g plan q₀ r₀ v q r w s
+  runs-ended v e z =
       let W = L .walking in
       let i = s .next in
       let here : span (take (2 * rows) q) 0 (s .quotient) ≡ span q 0 (s .quotient) = span-rows q rows (L .within) 0 (s .quotient) (omega (arith, taken-within)) in
@@ -185,7 +186,7 @@ module _ (p : ℕ) (f g : List ℕ) (plan : Plan) (q₀ r₀ w₀ q r w : List �
       record {
         quotient-long = L .quotient-long;
         remainder-long = L .remainder-long;
-        work-long = L .work-long;
+        work-long = L .work-long ∙ e;
         replies = ap (λ (x : Walked (Letters 4)). x .reply) done ∙ sym (L .goes);
         quotient-within = λ x. omega (arith, taken-within, L .within, ap (λ (y : ℕ). y / 2) (L .quotient-long));
         remainder-within = λ x. omega (arith, W .remainder-within, ap (λ (y : ℕ). y / 2) (L .remainder-long));
@@ -261,12 +262,12 @@ module _ (p : ℕ) (f g : List ℕ) (plan : Plan) (q₀ r₀ w₀ q r w : List �
       pub work-long : length w″ ≡ length w₀
       work-long = T .work-long ∙ grows-on .as-long ∙ L .work-long
 
-      pub runs-stopped : (t .reply ≡ 0 → ⊥) → Ran p f g plan q₀ r₀ w₀ q′ r′ w″ t
-      runs-stopped n =
+      pub runs-stopped : (v : List ℕ) → length w₀ ≡ length v → (t .reply ≡ 0 → ⊥) → Ran p f g plan q₀ r₀ v q′ r′ w″ t
+      runs-stopped v e n =
           record {
             quotient-long = quotient-long;
             remainder-long = remainder-long;
-            work-long = work-long;
+            work-long = work-long ∙ e;
             replies = T .stops n;
             quotient-within = λ z. absurd (n z);
             remainder-within = λ z. absurd (n z);

@@ -10,7 +10,7 @@
 --   quotientReply        what the judge of quotient terms says of a word
 --   Ready                all that a walk asks of its inputs, and what was computed once
 --   Walking              a walk that has come to record i of the dividend, with n quotient and j remainder terms written
---   Fresh                cleared rooms and work, in which a walk may start
+--   Fresh                rooms and work in which a walk may start
 --   Headed               the greatest monomial was taken out of what remains
 --   RowPut               a quotient term was written, and its products wait in the tree
 --   Stepped, Enough, Ran     what a step, the growing tree and the whole loop promise
@@ -20,7 +20,7 @@ use mathlib.Core.Bool.{Bool, true, false}
 use mathlib.Core.List.{List, [], _∷_, _++_}
 use mathlib.Core.Logic.{_⊎_}
 use lib.Dec.{ltb}
-use lib.ListN.{length, take, set}
+use lib.ListN.{length, set}
 use Rattle.algebra.specs.Residues.{Prime, inverse, pick}
 use Rattle.algebra.specs.Monomials.{Letters, Numbers}
 use Rattle.algebra.specs.Orders.{Lex, Rising}
@@ -100,12 +100,13 @@ pub record Walking (p : ℕ) (f g : List ℕ) (plan : Plan) (q r w : List ℕ) (
   pub enough : max (keyAt f i) (wordAt w 1) ≤ fuel
   pub walked : whole p f g plan ≡ joined (decodedPoly base (span q 0 n)) (decodedPoly base (span r 0 j)) (walkOn p f g plan fuel n j (seen p (rest p f g q w i)))
 
--- nothing is done yet: a walk may start on a tree with any number of rows, the first records of the room
-pub record Fresh (p : ℕ) (f g : List ℕ) (plan : Plan) (q r w : List ℕ) : Type 0 where
+-- the rooms and the work, in which a walk may start: the records of the quotient room may be rows, and the work is long enough
+pub record Fresh (p : ℕ) (plan : Plan) (q r w : List ℕ) : Type 0 where
   pub quotients : plan .quotients ≡ records q
+  pub remainders : plan .remainders ≡ records r
   pub long : 4 * records q ≤ length w
   pub few : records q < 2 ^ 32
-  pub starts : (n : ℕ) → n ≤ records q → Walking p f g plan (take (2 * n) q) r w 0 0 0
+  pub small : (x : ℕ) → x < records q → (wordAt q x < 2 ^ 63) × (numberAt q x < p)
 
 -- what remains is the monomial of key k, c times, and the rest from record i′ on, with no key as great
 pub record Headed (p : ℕ) (f g q w : List ℕ) (i k : ℕ) (w′ : List ℕ) (i′ c : ℕ) : Type 0 where

@@ -35,7 +35,7 @@ pub fn divide(
     divide_good(p, f, g, q, r, work)
 }
 
-// The division where none of 1 to 8 is due.
+// The division where none of 1 to 8 is due. The quotient room is cleared before, since its records are the rows of the tree.
 fn divide_good(
     p: u64,
     f: &[u64],
@@ -49,8 +49,6 @@ fn divide_good(
     ensures { λ t. ⌜ divided t (now (q .exit)) (now (r .exit)) (now (work .exit)) ≡ afterDivision (walkBy p (divisionJudges (polyOf base (now (g .entry))) (records (now (q .entry))) (records (now (r .entry)))) (polyOf base (now (f .entry))) (polyOf base (now (g .entry)))) (now (q .entry)) (now (r .entry)) (now (work .entry)) ⌝ }
 {
     clear(q, 0);
-    clear(r, 0);
-    clear(work, 0);
     let plan = prepare(p, f, g, false, q.len() / 2, r.len() / 2);
     let s = run(p, f, g, q, r, work, plan);
     clear(work, 0);

@@ -36,7 +36,6 @@ fn test_good(p: u64, f: &[u64], g: &[u64], q: &mut [u64], work: &mut [u64]) -> R
     ensures { λ t. ⌜ outcome t (now (q .exit)) (now (work .exit)) ≡ afterTest (walkBy p (testJudges (polyOf base (now (f .entry))) (polyOf base (now (g .entry))) (records (now (q .entry)))) (polyOf base (now (f .entry))) (polyOf base (now (g .entry)))) (now (q .entry)) (now (work .entry)) ⌝ }
 {
     clear(q, 0);
-    clear(work, 0);
     let plan = prepare(p, f, g, true, q.len() / 2, 0);
     let mut none: [u64; 1] = [0];
     let s = run(p, f, g, q, &mut none, work, plan);

@@ -1,14 +1,15 @@
 // The walk: one step after another, until nothing remains or a judge stops it.
 ghost use mathlib.Core.Path.{_≡_};
 ghost use mathlib.Core.Logic.{_⊎_};
-ghost use Prim.Native.Nat.{_*_, _<_, _≤_};
-ghost use lib.ListN.{length};
+ghost use Prim.Native.Nat.{ℕ, _*_, _<_, _≤_};
+ghost use lib.ListN.{length, getD};
 ghost use Rattle.division.specs.Walking.{Ready, Fresh, Enough, Ran};
 use crate::heads::greatest_key;
 use crate::plan::Plan;
 use crate::steps::State;
 use crate::steps::step;
 use ring::growth::grow;
+use ring::room::clear;
 
 // The rows of a new tree. It grows with the quotient, so that a room much longer than the quotient costs nothing.
 const FIRST_ROWS: usize = 16;
@@ -23,11 +24,12 @@ pub fn run(
     plan: Plan,
 ) -> State
     requires { ⌜ Ready p (now f) (now g) plan ⌝ }
-    requires { ⌜ Fresh p (now f) (now g) plan (now q) (now r) (now work) ⌝ }
+    requires { ⌜ Fresh p plan (now q) (now r) (now work) ⌝ }
     ensures { λ s. ⌜ Ran p (now (f .entry)) (now (g .entry)) plan (now (q .entry)) (now (r .entry)) (now (work .entry)) (now (q .exit)) (now (r .exit)) (now (work .exit)) s ⌝ }
 {
     let room = q.len() / 2;
     let mut rows = least(FIRST_ROWS, room);
+    clear_front(work, 4 * FIRST_ROWS);
     let mut s = State {
         next: 0,
         quotient: 0,
@@ -44,6 +46,14 @@ pub fn run(
         k = greatest_key(f, work, s.next);
     }
     s
+}
+
+// Zero words at the front, so many or all that there are: a tree in which nothing waits. Growing writes all that lies behind.
+fn clear_front(work: &mut [u64], words: usize)
+    ensures { λ r. ⌜ (length (now (work .exit)) ≡ length (now (work .entry))) × ((i : ℕ) → i < words → getD (now (work .exit)) i 0 ≡ 0) ⌝ }
+{
+    let count = least(words, work.len());
+    clear(&mut work[..count], 0);
 }
 
 // The rows of the tree, which grows where all of them are taken and the room has more.

@@ -1,6 +1,6 @@
 -- `division::walk::run` meets its contract. The loop's invariant: what is written, and the walk on from what remains, are the whole
 -- walk; the tree has the front of the quotient room as its rows.
-use mathlib.Core.Path.{sym}
+use mathlib.Core.Path.{sym, _∙_}
 use mathlib.Core.Logic.{inl, inr}
 use native.Mathlib.Omega.{arith}
 use lib.Seq.{length-take-le}
@@ -18,11 +18,19 @@ abbrev μ-loop : tie.MeasureT-loop
 least-requires : tie.Need-least-requires Inv-loop μ-loop
 least-requires c κs = tt
 
+mul-clear-front : tie.Need-mul-clear-front Inv-loop μ-loop
+mul-clear-front c = omega arith
+
+clear-front-requires : tie.Need-clear-front-requires Inv-loop μ-loop
+clear-front-requires c κs = tt
+
 greatest-key-requires : tie.Need-greatest-key-requires Inv-loop μ-loop
-greatest-key-requires c κs = words-small _ _ (c .before .before .before .before .before .before .before .pre .0 .dividend) _
+greatest-key-requires c κs = words-small _ _ (c .before .before .before .before .before .before .before .before .before .before .before .pre .0 .dividend) _
 
 loop-holds : tie.Need-loop-holds Inv-loop μ-loop
-loop-holds c = runs-first _ _ _ _ _ _ _ (c .before .before .before .before .before .before .before .before .pre .1) _ (c .greatest-key .ensures) _ (c .before .before .least .ensures .1) (λ h. elim (c .before .before .least .ensures .2) [ inl e ↦ omega arith | inr e ↦ omega arith ])
+loop-holds c =
+    let least = c .before .before .before .before .before .before .least .ensures in
+    runs-first _ _ _ _ (c .before .before .before .before .before .before .before .before .before .before .before .before .pre .0) _ _ _ _ (c .before .before .before .before .before .before .before .before .before .before .before .before .pre .1) _ (c .greatest-key .ensures) _ _ (c .before .before .before .before .clear-front .ensures) (omega arith) (omega (arith, least .0)) (least .1) (λ h. elim (least .2) [ inl e ↦ omega arith | inr e ↦ omega arith ])
 
 enough-rows-requires : tie.Need-enough-rows-requires Inv-loop μ-loop
 enough-rows-requires c κs = rows-asked _ _ _ _ _ _ _ _ _ _ _ _ _ (c .before .before .loop .inv)
@@ -39,7 +47,7 @@ slice-aggregate-step c = sym (length-take-le _ _ (rows-inside _ _ _ _ _ _ _ _ _ 
 step-requires : tie.Need-step-requires Inv-loop μ-loop
 step-requires c κs =
     let grew = grows-on _ _ _ _ _ _ _ _ _ _ _ _ _ (c .before .before .before .before .before .before .before .before .loop .inv) _ _ (c .before .before .before .before .before .enough-rows .ensures) in
-    ((c .before .before .before .before .before .before .before .loop-test .taken, grew .top, grew .free), (c .before .before .before .before .before .before .before .before .before .before .before .before .before .before .before .before .before .pre .0, grew .walking))
+    ((c .before .before .before .before .before .before .before .loop-test .taken, grew .top, grew .free), (c .before .before .before .before .before .before .before .before .before .before .before .before .before .before .before .before .before .before .before .before .before .pre .0, grew .walking))
 
 same-length : tie.Need-same-length Inv-loop μ-loop
 same-length c = quotient-long _ _ _ _ _ _ _ _ _ _ _ _ _ (c .before .before .before .before .before .before .before .before .before .before .before .before .before .before .before .before .before .loop .inv) _ _ (c .before .before .before .before .before .before .before .before .before .before .before .before .before .before .enough-rows .ensures) _ _ _ _ (c .before .before .before .before .before .before .before .before .step .ensures)
@@ -48,13 +56,13 @@ same-length-2 : tie.Need-same-length-2 Inv-loop μ-loop
 same-length-2 c = remainder-long _ _ _ _ _ _ _ _ _ _ _ _ _ (c .before .before .before .before .before .before .before .before .before .before .before .before .before .before .before .before .before .loop .inv) _ _ (c .before .before .before .before .before .before .before .before .before .before .before .before .before .before .enough-rows .ensures) _ _ _ _ (c .before .before .before .before .before .before .before .before .step .ensures)
 
 same-length-3 : tie.Need-same-length-3 Inv-loop μ-loop
-same-length-3 c = work-long _ _ _ _ _ _ _ _ _ _ _ _ _ (c .before .before .before .before .before .before .before .before .before .before .before .before .before .before .before .before .before .loop .inv) _ _ (c .before .before .before .before .before .before .before .before .before .before .before .before .before .before .enough-rows .ensures) _ _ _ _ (c .before .before .before .before .before .before .before .before .step .ensures)
+same-length-3 c = work-long _ _ _ _ _ _ _ _ _ _ _ _ _ (c .before .before .before .before .before .before .before .before .before .before .before .before .before .before .before .before .before .loop .inv) _ _ (c .before .before .before .before .before .before .before .before .before .before .before .before .before .before .enough-rows .ensures) _ _ _ _ (c .before .before .before .before .before .before .before .before .step .ensures) ∙ c .before .before .before .before .before .before .before .before .before .before .before .before .before .before .before .before .before .before .before .before .before .before .clear-front .ensures .0
 
 returns : tie.Need-returns Inv-loop μ-loop
-returns c = runs-stopped _ _ _ _ _ _ _ _ _ _ _ _ _ (c .before .before .before .before .before .before .before .before .before .before .before .before .before .before .before .before .before .loop .inv) _ _ (c .before .before .before .before .before .before .before .before .before .before .before .before .before .before .enough-rows .ensures) _ _ _ _ (c .before .before .before .before .before .before .before .before .step .ensures) (c .if1 .taken)
+returns c = runs-stopped _ _ _ _ _ _ _ _ _ _ _ _ _ (c .before .before .before .before .before .before .before .before .before .before .before .before .before .before .before .before .before .loop .inv) _ _ (c .before .before .before .before .before .before .before .before .before .before .before .before .before .before .enough-rows .ensures) _ _ _ _ (c .before .before .before .before .before .before .before .before .step .ensures) _ (c .before .before .before .before .before .before .before .before .before .before .before .before .before .before .before .before .before .before .before .before .before .before .clear-front .ensures .0) (c .if1 .taken)
 
 greatest-key-requires-2 : tie.Need-greatest-key-requires-2 Inv-loop μ-loop
-greatest-key-requires-2 c κs = words-small _ _ (c .before .before .before .before .before .before .before .before .before .before .before .before .before .before .before .before .before .before .before .before .before .before .before .before .before .before .before .pre .0 .dividend) _
+greatest-key-requires-2 c κs = words-small _ _ (c .before .before .before .before .before .before .before .before .before .before .before .before .before .before .before .before .before .before .before .before .before .before .before .before .before .before .before .before .before .before .before .pre .0 .dividend) _
 
 loop-less : tie.Need-loop-less Inv-loop μ-loop
 loop-less c = omega (arith, c .greatest-key2 .ensures, c .before .before .before .before .before .before .before .before .before .before .step .ensures .lower (c .before .before .if1 .left))
@@ -69,10 +77,10 @@ same-length-5 : tie.Need-same-length-5 Inv-loop μ-loop
 same-length-5 c = c .before .loop .inv .remainder-long
 
 same-length-6 : tie.Need-same-length-6 Inv-loop μ-loop
-same-length-6 c = c .before .loop .inv .work-long
+same-length-6 c = c .before .loop .inv .work-long ∙ c .before .before .before .before .before .before .clear-front .ensures .0
 
 returns-2 : tie.Need-returns-2 Inv-loop μ-loop
-returns-2 c = runs-ended _ _ _ _ _ _ _ _ _ _ _ _ _ (c .before .loop .inv) (c .loop-test .left)
+returns-2 c = runs-ended _ _ _ _ _ _ _ _ _ _ _ _ _ (c .before .loop .inv) _ (c .before .before .before .before .before .before .clear-front .ensures .0) (c .loop-test .left)
 
 pub run-spec : {M : Type 1} → statement M
 run-spec =
@@ -81,6 +89,8 @@ run-spec =
     Inv-loop
     μ-loop
     least-requires
+    mul-clear-front
+    clear-front-requires
     greatest-key-requires
     loop-holds
     enough-rows-requires
