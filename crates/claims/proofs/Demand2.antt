@@ -33,7 +33,8 @@ use Rattle.ring.specs.Calls.{twoInputs}
 use Rattle.ring.proofs.sums.sum.Reads as sum
 use Rattle.ring.proofs.sums.difference.Reads as difference
 use Rattle.ring.proofs.product.product.Reads as product
-use Rattle.ring.proofs.Multiplying.{rules, Bursts, FirstDue, fold-first-due}
+use Rattle.ring.proofs.Endings.{FirstDue, fold-first-due}
+use Rattle.ring.proofs.Multiplying.{rules, Bursts}
 use Rattle.ring.proofs.SumClaims as sums
 use Rattle.ring.proofs.DifferenceClaims as differences
 use Rattle.ring.proofs.ProductClaims as products

@@ -11,7 +11,6 @@ pub mod Accepted
 pub mod Heights
 pub mod Determined
 pub mod Verdicts
-pub mod Ways
 pub mod Due
 pub mod TestClaims
 pub mod DivisionClaims

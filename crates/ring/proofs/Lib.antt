@@ -16,6 +16,7 @@ pub mod Merges
 pub mod SumClaims
 pub mod DifferenceClaims
 pub mod Determined
+pub mod Endings
 pub mod Multiplying
 pub mod ProductClaims
 pub mod ProductDetermined

@@ -3,11 +3,10 @@
 --   rules, due           the rules 1 to 8 of the call in their order; the first that is due, with the number 0 where none is
 --   product              the true product of the two factors, after cancellation
 --   Bursts               M(a, v) + M(b, v) is over 32,767 for some letter v
---   FirstDue rs q        the report q stands in the list rs, refuses, and all before it passed
---   fold-first-due       a fold tells a refusal exactly when it is the first due
---   rules-within         no rule has a number over 8
---   Way, way             the four ways out, each with its condition and all that it leaves; every call takes one
---   factors-good, work-good    where none of the rules is due, the inputs and the room are good, and the work is long enough
+--   reply                9, 10 or 0 of a product where none of the rules is due
+--   reply-nine, reply-ten, reply-zero     what it says of the letters and of the room
+--   ends                 how the call ends: refused by the first rule due, stopped with the reply, or finished
+--   factors-good, work-good     where none of the rules is due, the inputs and the room are good, and the work is long enough
 --   bursts-not           where no letter bursts, the code finds none
 --   bursts-nonzero       where none of the rules is due and a letter bursts, both factors have terms
 --   no-factor            where one has none, the product is zero
@@ -19,9 +18,9 @@ use mathlib.Core.Logic.{_⊎_, inl, inr, _↔_}
 use native.Mathlib.Nat.{pos-of-ne-zero}
 use native.Mathlib.Decide.{ℕ-discrete, decLt, decLe}
 use native.Mathlib.Omega.{arith}
-use lib.Dec.{leb}
+use lib.Dec.{eqb, ltb, leb}
 use lib.ListN.{length}
-use borrow.Author.Tests.{eq-eqb, ne-eqb, lt-ltb, le-ltb, le-leb, lt-leb}
+use borrow.Author.Tests.{lt-ltb, le-ltb, le-leb, lt-leb}
 use Rattle.algebra.specs.Residues.{pick}
 use Rattle.algebra.specs.Monomials.{Letters, exponent}
 use Rattle.algebra.specs.Orders.{Lex}
@@ -33,11 +32,12 @@ use Rattle.poly.specs.Words.{records, terms, polyOf, wordsOf, filled}
 use Rattle.poly.specs.Reports.{none, done, refusal, orElse, firstOr}
 use Rattle.poly.specs.Rules.{unless, workRule}
 use Rattle.poly.specs.declared.report.Report.{Report}
-use Rattle.poly.proofs.Reports.{Passed, passed-append, or-else-next, or-else-here, fold-append, fold-passed, passed-fold, fold-refused, fold-tells}
+use Rattle.poly.proofs.Reports.{passed-append, fold-append, fold-passed, passed-fold, fold-refused}
 use Rattle.poly.proofs.Valid.{work-passed}
-use Rattle.ring.specs.Outcomes.{Outcome, outcome, cleared, inRoom}
+use Rattle.ring.specs.Outcomes.{Outcome, outcome, cleared}
 use Rattle.ring.specs.Calls.{twoInputs, burstAt, multiplied, productOf}
 use Rattle.ring.proofs.Refusals.{Good, inputs-good, due-within}
+use Rattle.ring.proofs.Endings.{Ends}
 use Rattle.ring.proofs.Bursts.{burst-some, no-burst, exponents-most}
 
 abbrev pub rules : ℕ → List ℕ → List ℕ → List ℕ → List ℕ → List Report
@@ -53,44 +53,6 @@ pub record Bursts (a b : List ℕ) : Type 0 where
   pub letter : ℕ
   pub one-of-four : letter < 4
   pub over : largestExponent 16 < largest (exponent 4 letter) (polyOf base a) + largest (exponent 4 letter) (polyOf base b)
-
--- The first rule that is due
-
-pub record FirstDue (rs : List Report) (q : Report) : Type 0 where
-  pub before : List Report
-  pub after : List Report
-  pub stands : rs ≡ before ++ q ∷ after
-  pub passed : Passed before
-  pub refuses : q .number ≡ 0 → ⊥
-
-fold-due : (rs : List Report) (q : Report) → (q .number ≡ 0 → ⊥) → firstOr rs none ≡ q → FirstDue rs q
-fold-due [] q n e = absurd (n (ap (λ (x : Report). x .number) (sym e)))
-fold-due (r ∷ rs) q n e = go (ℕ-discrete (r .number) 0) (fold-due rs q n)
-  where
-    go : Dec (r .number ≡ 0) → (firstOr rs none ≡ q → FirstDue rs q) → FirstDue (r ∷ rs) q
-    go (yes z) later =
-        let d = later (sym (or-else-next r (firstOr rs none) z) ∙ e) in
-        record {
-          before = r ∷ d .before;
-          after = d .after;
-          stands = ap (λ (x : List Report). r ∷ x) (d .stands);
-          passed = (z, d .passed);
-          refuses = n;
-        }
-    go (no z) later =
-        record {
-          before = [];
-          after = rs;
-          stands = ap (λ (x : Report). x ∷ rs) (sym (or-else-here r (firstOr rs none) z) ∙ e);
-          passed = tt;
-          refuses = n;
-        }
-
-pub fold-first-due : (rs : List Report) (q : Report) → 0 < q .number → (firstOr rs none ≡ q) ↔ FirstDue rs q
-fold-first-due rs q h = (
-  fold-due rs q (λ z. omega arith),
-  λ d. ap (λ (x : List Report). firstOr x none) (d .stands) ∙ fold-tells (d .before) q (d .after) none (d .passed) (d .refuses),
-)
 
 -- Numbers of refusals
 
@@ -115,7 +77,7 @@ module _ (p : ℕ) (a b room work : List ℕ) where
   due-last : due p a b room work ≡ firstOr (twoInputs p a b room) last
   due-last = fold-append (twoInputs p a b room) (workRule (4 * min (records a) (records b)) work ∷ []) none
 
-  pub rules-within : (n : ℕ) → 8 < n → due p a b room work .number ≡ n → ⊥
+  rules-within : (n : ℕ) → 8 < n → due p a b room work .number ≡ n → ⊥
   rules-within n h e = go (ℕ-discrete (firstOr (twoInputs p a b room) none .number) 0)
     where
       go : Dec (firstOr (twoInputs p a b room) none .number ≡ 0) → ⊥
@@ -152,54 +114,93 @@ module _ (p : ℕ) (a b room work : List ℕ) where
       go (yes l) = absurd (n (below-bursts l))
       go (no l) = omega arith
 
-  -- The four ways out
+  -- How the call ends
 
-  pub data Way (r : Report) (out spent : List ℕ) : Type 0 where
-    refused : (due p a b room work .number ≡ 0 → ⊥) → outcome r out spent ≡ outcome (due p a b room work) room work → Way r out spent
-    burst : due p a b room work .number ≡ 0 → Bursts a b → outcome r out spent ≡ outcome (refusal 9 0 0) (cleared room) (cleared work) → Way r out spent
-    full : due p a b room work .number ≡ 0 → (Bursts a b → ⊥) → records room < length (product p a b) → outcome r out spent ≡ outcome (refusal 10 0 0) (cleared room) (cleared work) → Way r out spent
-    finished : due p a b room work .number ≡ 0 → (Bursts a b → ⊥) → length (product p a b) ≤ records room → outcome r out spent ≡ outcome (done (length (product p a b)) 0) (filled (length room) (wordsOf base (product p a b))) (cleared work) → Way r out spent
+  abbrev code : Bool → Bool → ℕ
+  code bursts fits = pick bursts 9 (pick fits 0 10)
 
-  -- by whether none of the rules is due, whether a letter bursts, and whether the product fits
-  abbrev passes : Bool → Outcome
-  passes t = pick t (multiplied p a b room work) (outcome (due p a b room work) room work)
+  abbrev pub reply : ℕ
+  reply = code (ltb (burstAt f g) 4) (leb (length (product p a b)) (records room))
 
-  abbrev bursting : Bool → Outcome
-  bursting t = pick t (outcome (refusal 9 0 0) (cleared room) (cleared work)) (inRoom (product p a b) room work)
+  abbrev Crowded : Type 0
+  Crowded = (Bursts a b → ⊥) × (records room < length (product p a b))
 
-  abbrev fitting : Bool → Outcome
-  fitting t = pick t (outcome (done (length (product p a b)) 0) (filled (length room) (wordsOf base (product p a b))) (cleared work)) (outcome (refusal 10 0 0) (cleared room) (cleared work))
+  abbrev Fitting : Type 0
+  Fitting = (Bursts a b → ⊥) × (length (product p a b) ≤ records room)
 
-  module _ (r : Report) (out spent : List ℕ) (e : outcome r out spent ≡ productOf p a b room work) where
-    with-refusal : (due p a b room work .number ≡ 0 → ⊥) → Way r out spent
-    unfolding productOf
-    with-refusal n = refused n (e ∙ ap passes (ne-eqb (due p a b room work .number) 0 n))
+  is-nine : Bursts a b → reply ≡ 9
+  is-nine h = ap (λ (t : Bool). code t (leb (length (product p a b)) (records room))) (lt-ltb (burstAt f g) 4 (bursts-below h))
 
-    goes-on : due p a b room work .number ≡ 0 → outcome r out spent ≡ multiplied p a b room work
-    unfolding productOf
-    goes-on z = e ∙ ap passes (eq-eqb (due p a b room work .number) 0 z)
+  is-ten : Crowded → reply ≡ 10
+  is-ten h = λ d. code (le-ltb (burstAt f g) 4 (bursts-not (h .0)) d) (lt-leb (length (product p a b)) (records room) (h .1) d)
 
-    with-burst : due p a b room work .number ≡ 0 → Bursts a b → Way r out spent
-    unfolding multiplied
-    with-burst z h = burst z h (goes-on z ∙ ap bursting (lt-ltb (burstAt f g) 4 (bursts-below h)))
+  is-zero : Fitting → reply ≡ 0
+  is-zero h = λ d. code (le-ltb (burstAt f g) 4 (bursts-not (h .0)) d) (le-leb (length (product p a b)) (records room) (h .1) d)
 
-    in-room : due p a b room work .number ≡ 0 → (Bursts a b → ⊥) → outcome r out spent ≡ inRoom (product p a b) room work
-    unfolding multiplied
-    in-room z n = goes-on z ∙ ap bursting (le-ltb (burstAt f g) 4 (bursts-not n))
+  data Case : Type 0 where
+    bursting : Bursts a b → Case
+    crowded : Crowded → Case
+    fitting : Fitting → Case
 
-    pub way : Way r out spent
-    way = go (ℕ-discrete (due p a b room work .number) 0) (decLt (burstAt f g) 4) (decLe (length (product p a b)) (records room))
-      where
-        room-for : due p a b room work .number ≡ 0 → (Bursts a b → ⊥) → Dec (length (product p a b) ≤ records room) → Way r out spent
-        room-for z n (yes l) = finished z n l (in-room z n ∙ ap fitting (le-leb (length (product p a b)) (records room) l))
-        room-for z n (no l) =
-            let more : records room < length (product p a b) = omega arith in
-            full z n more (in-room z n ∙ ap fitting (lt-leb (length (product p a b)) (records room) more))
+  case : Case
+  case = go (decLt (burstAt f g) 4) (decLe (length (product p a b)) (records room))
+    where
+      go : Dec (burstAt f g < 4) → Dec (length (product p a b) ≤ records room) → Case
+      go (yes h) l = bursting (below-bursts h)
+      go (no h) (yes l) = fitting (λ k. h (bursts-below k), l)
+      go (no h) (no l) = crowded (λ k. h (bursts-below k), omega arith)
 
-        go : Dec (due p a b room work .number ≡ 0) → Dec (burstAt f g < 4) → Dec (length (product p a b) ≤ records room) → Way r out spent
-        go (no n) d l = with-refusal n
-        go (yes z) (yes h) l = with-burst z (below-bursts h)
-        go (yes z) (no h) l = room-for z (λ k. h (bursts-below k)) l
+  pub reply-nine : (reply ≡ 9) ↔ Bursts a b
+  reply-nine = (λ e. go e case, is-nine)
+    where
+      go : reply ≡ 9 → Case → Bursts a b
+      go e (bursting h) = h
+      go e (crowded h) = absurd (omega (arith, is-ten h))
+      go e (fitting h) = absurd (omega (arith, is-zero h))
+
+  pub reply-ten : (reply ≡ 10) ↔ ((Bursts a b → ⊥) × (records room < length (product p a b)))
+  reply-ten = (λ e. go e case, is-ten)
+    where
+      go : reply ≡ 10 → Case → Crowded
+      go e (bursting h) = absurd (omega (arith, is-nine h))
+      go e (crowded h) = h
+      go e (fitting h) = absurd (omega (arith, is-zero h))
+
+  pub reply-zero : (reply ≡ 0) ↔ ((Bursts a b → ⊥) × (length (product p a b) ≤ records room))
+  reply-zero = (λ e. go e case, is-zero)
+    where
+      go : reply ≡ 0 → Case → Fitting
+      go e (bursting h) = absurd (omega (arith, is-nine h))
+      go e (crowded h) = absurd (omega (arith, is-ten h))
+      go e (fitting h) = h
+
+  abbrev pub stopped : Outcome
+  stopped = outcome (refusal reply 0 0) (cleared room) (cleared work)
+
+  abbrev pub finished : Outcome
+  finished = outcome (done (length (product p a b)) 0) (filled (length room) (wordsOf base (product p a b))) (cleared work)
+
+  by-reply : (t s : Bool) → pick t (outcome (refusal 9 0 0) (cleared room) (cleared work)) (pick s finished (outcome (refusal 10 0 0) (cleared room) (cleared work))) ≡ pick (eqb (code t s) 0) finished (outcome (refusal (code t s) 0 0) (cleared room) (cleared work))
+  by-reply true s = refl
+  by-reply false true = refl
+  by-reply false false = refl
+
+  pub ends : (o : Outcome) → o ≡ productOf p a b room work → Ends (λ (x : Outcome). x .report) (rules p a b room work) reply (outcome (due p a b room work) room work) stopped finished o
+  unfolding productOf multiplied
+  ends o e =
+      record {
+        due-within = elim (decLe (due p a b room work .number) 8) [ yes l ↦ l | no l ↦ absurd (rules-within (due p a b room work .number) (omega arith) refl) ];
+        reply-over = λ z. over case;
+        of-refused = refl;
+        of-stopped = refl;
+        of-finished = refl;
+        ended = e ∙ ap (λ (x : Outcome). pick (eqb (due p a b room work .number) 0) x (outcome (due p a b room work) room work)) (by-reply (ltb (burstAt f g) 4) (leb (length (product p a b)) (records room)));
+      }
+    where
+      over : Case → (reply ≡ 0) ⊎ (8 < reply)
+      over (bursting h) = inr (omega (arith, is-nine h))
+      over (crowded h) = inr (omega (arith, is-ten h))
+      over (fitting h) = inl (is-zero h)
 
   -- Factors without terms
 

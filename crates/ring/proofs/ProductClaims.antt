@@ -6,8 +6,7 @@
 --   product-full           else 10 exactly when the true product, after cancellation, has more terms than the room
 --   product-done           else 0
 --   product-unchanged      after 1 to 8 the room and the work are as they were
---   product-nine, product-ten  9 and 10 carry no operand, no term and no count; room and work are all zero
---   product-cleared        the same of both
+--   product-cleared        9 and 10 carry no operand, no term and no count; room and work are all zero
 --   product-accepts        unless one of 1 to 8 is told, modulus, inputs, room and work are good
 --   product-written        0 carries the terms of the true product; the room has them, then zero words; the work is all zero
 --   product-poly           with 0, the polynomial in the room is the product's normal form
@@ -15,7 +14,7 @@
 --   product-count          with 0, every normal polynomial that is the product has as many terms as are told
 --   product-zero-factor    if either factor is zero, the product is zero
 use Prim.Native.Nat.{ℕ, _*_, _<_, _≤_, min}
-use mathlib.Core.Path.{_≡_, sym, _∙_, ap}
+use mathlib.Core.Path.{_≡_, refl, _∙_, ap}
 use mathlib.Core.Bool.{true}
 use mathlib.Core.List.{List, []}
 use mathlib.Core.Logic.{_⊎_, inl, inr, _↔_}
@@ -38,93 +37,13 @@ use Rattle.ring.specs.Outcomes.{Outcome, outcome, cleared}
 use Rattle.ring.proofs.Refusals.{Good}
 use Rattle.ring.proofs.Bursts.{products-fit}
 use Rattle.ring.proofs.Transport.{filled-poly}
-use Rattle.ring.proofs.Multiplying.{
-  rules,
-  due,
-  product,
-  Bursts,
-  FirstDue,
-  fold-first-due,
-  rules-within,
-  factors-good,
-  work-good,
-  bursts-not,
-  Way,
-  refused,
-  burst,
-  full,
-  finished,
-  way,
-  bursts-nonzero,
-  no-factor,
-}
+use Rattle.ring.proofs.Endings.{FirstDue, Ends, told-refused, told-stopped, told-finished, refuses, replies}
+use Rattle.ring.proofs.Multiplying.{rules, due, product, Bursts, factors-good, work-good, bursts-not, reply, reply-nine, reply-ten, reply-zero, stopped, finished, ends, bursts-nonzero, no-factor}
 use Rattle.ring.proofs.product.product.Reads as call
-
--- of a report in an outcome
-pub number-told : {r q : Report} {o o′ w w′ : List ℕ} → outcome r o w ≡ outcome q o′ w′ → r .number ≡ q .number
-number-told e = ap (λ (x : Outcome). x .report .number) e
 
 -- the three parts of an outcome
 pub parts : {r q : Report} {o o′ w w′ : List ℕ} → outcome r o w ≡ outcome q o′ w′ → (r ≡ q) × (o ≡ o′) × (w ≡ w′)
 parts e = (ap (λ (x : Outcome). x .report) e, ap (λ (x : Outcome). x .room) e, ap (λ (x : Outcome). x .work) e)
-
-module _ (p : ℕ) (a b room work : List ℕ) (r : Report) (out spent : List ℕ) where
-  abbrev Passes : Type 0
-  Passes = due p a b room work .number ≡ 0
-
-  told-due : 0 < r .number → r .number ≤ 8 → Way p a b room work r out spent → (r ≡ due p a b room work) × (out ≡ room) × (spent ≡ work)
-  told-due h k (refused n e) = parts e
-  told-due h k (burst z v e) = absurd (omega (arith, number-told e))
-  told-due h k (full z n l e) = absurd (omega (arith, number-told e))
-  told-due h k (finished z n l e) = absurd (omega (arith, number-told e))
-
-  due-told : (Passes → ⊥) → Way p a b room work r out spent → r ≡ due p a b room work
-  due-told k (refused n e) = parts e .0
-  due-told k (burst z v e) = absurd (k z)
-  due-told k (full z n l e) = absurd (k z)
-  due-told k (finished z n l e) = absurd (k z)
-
-  told-nine : r .number ≡ 9 → Way p a b room work r out spent → Passes × Bursts a b × ((r ≡ refusal 9 0 0) × (out ≡ cleared room) × (spent ≡ cleared work))
-  told-nine h (refused n e) = absurd (rules-within p a b room work 9 (omega arith) (sym (number-told e) ∙ h))
-  told-nine h (burst z v e) = (z, v, parts e)
-  told-nine h (full z n l e) = absurd (omega (arith, number-told e))
-  told-nine h (finished z n l e) = absurd (omega (arith, number-told e))
-
-  nine-told : Passes → Bursts a b → Way p a b room work r out spent → r .number ≡ 9
-  nine-told z v (refused n e) = absurd (n z)
-  nine-told z v (burst z′ v′ e) = number-told e
-  nine-told z v (full z′ n l e) = absurd (n v)
-  nine-told z v (finished z′ n l e) = absurd (n v)
-
-  told-ten : r .number ≡ 10 → Way p a b room work r out spent → (Passes × (Bursts a b → ⊥) × (records room < length (product p a b))) × ((r ≡ refusal 10 0 0) × (out ≡ cleared room) × (spent ≡ cleared work))
-  told-ten h (refused n e) = absurd (rules-within p a b room work 10 (omega arith) (sym (number-told e) ∙ h))
-  told-ten h (burst z v e) = absurd (omega (arith, number-told e))
-  told-ten h (full z n l e) = ((z, n, l), parts e)
-  told-ten h (finished z n l e) = absurd (omega (arith, number-told e))
-
-  told-over : 8 < r .number → Way p a b room work r out spent → Passes × ((r ≡ refusal (r .number) 0 0) × (out ≡ cleared room) × (spent ≡ cleared work))
-  told-over h (refused n e) = absurd (rules-within p a b room work (r .number) h (sym (number-told e)))
-  told-over h (burst z v e) = let o = parts e in (z, (o .0 ∙ ap (λ (n : ℕ). refusal n 0 0) (sym (number-told e)), o .1, o .2))
-  told-over h (full z n l e) = let o = parts e in (z, (o .0 ∙ ap (λ (n : ℕ). refusal n 0 0) (sym (number-told e)), o .1, o .2))
-  told-over h (finished z n l e) = absurd (omega (arith, number-told e))
-
-  ten-told : Passes → (Bursts a b → ⊥) → records room < length (product p a b) → Way p a b room work r out spent → r .number ≡ 10
-  ten-told z n l (refused k e) = absurd (k z)
-  ten-told z n l (burst z′ v e) = absurd (n v)
-  ten-told z n l (full z′ n′ l′ e) = number-told e
-  ten-told z n l (finished z′ n′ l′ e) = absurd (omega arith)
-
-  told-done : r .number ≡ 0 → Way p a b room work r out spent → (Passes × (Bursts a b → ⊥) × (length (product p a b) ≤ records room)) × ((r ≡ done (length (product p a b)) 0) × (out ≡ filled (length room) (wordsOf base (product p a b))) × (spent ≡ cleared work))
-  told-done h (refused n e) = absurd (n (sym (number-told e) ∙ h))
-  told-done h (burst z v e) = absurd (omega (arith, number-told e))
-  told-done h (full z n l e) = absurd (omega (arith, number-told e))
-  told-done h (finished z n l e) = ((z, n, l), parts e)
-
-  done-told : Passes → (Bursts a b → ⊥) → length (product p a b) ≤ records room → Way p a b room work r out spent → r .number ≡ 0
-  done-told z n l (refused k e) = absurd (k z)
-  done-told z n l (burst z′ v e) = absurd (n v)
-  done-told z n l (full z′ n′ l′ e) = absurd (omega arith)
-  done-told z n l (finished z′ n′ l′ e) = number-told e
 
 module _ (κs : _) (x : _) (r : _) (s : _) (post : call.Post κs x r s) where
   abbrev p : ℕ
@@ -149,68 +68,57 @@ module _ (κs : _) (x : _) (r : _) (s : _) (post : call.Post κs x r s) where
   abbrev spent : List ℕ
   spent = now (s .1 .1 .1 .1 .0)
 
-  taken : Way p a b room work r out spent
-  taken = way p a b room work r out spent post
+  ended : Ends (λ (y : Outcome). y .report) (rules p a b room work) (reply p a b room work) (outcome (due p a b room work) room work) (stopped p a b room work) (finished p a b room work) (outcome r out spent)
+  ended = ends p a b room work (outcome r out spent) post
 
   -- Of 1 to 8 the lowest number wins, then the lowest operand, then the lowest term.
   pub product-refuses : (q : Report) → 0 < q .number → q .number ≤ 8 → (r ≡ q) ↔ FirstDue (rules p a b room work) q
-  product-refuses q h k =
-      let d = fold-first-due (rules p a b room work) q h in (
-        λ e.
-            let n : r .number ≡ q .number = ap (λ (y : Report). y .number) e in
-            d .0 (sym (told-due p a b room work r out spent (omega arith) (omega arith) taken .0) ∙ e),
-        λ f.
-            let n : due p a b room work .number ≡ q .number = ap (λ (y : Report). y .number) (d .1 f) in
-            due-told p a b room work r out spent (λ z. omega arith) taken ∙ d .1 f,
-      )
+  product-refuses = refuses ended
 
   -- 9 exactly when M(a, v) + M(b, v) is over 32,767 for some v.
   pub product-bursts : (r .number ≡ 9) ↔ ((due p a b room work .number ≡ 0) × Bursts a b)
-  product-bursts = (
-    λ h. let t = told-nine p a b room work r out spent h taken in (t .0, t .1),
-    λ h. nine-told p a b room work r out spent (h .0) (h .1) taken,
-  )
+  product-bursts =
+      let n = replies ended 9 (inr (omega arith)) in
+      let m = reply-nine p a b room work in
+      (λ h. let t = n .0 h in (t .0, m .0 (t .1)), λ h. n .1 (h .0, m .1 (h .1)))
 
   -- A zero factor never gives 9: the other's exponents are at most 32,767.
   pub product-bursts-nonzero : r .number ≡ 9 → (0 < records a) × (0 < records b)
-  product-bursts-nonzero h = let t = told-nine p a b room work r out spent h taken in bursts-nonzero p a b room work (t .0) (t .1)
+  product-bursts-nonzero h = let t = product-bursts .0 h in bursts-nonzero p a b room work (t .0) (t .1)
 
   -- Else 10 exactly when the true product, after cancellation, has more terms than the room.
   pub product-full : (r .number ≡ 10) ↔ ((due p a b room work .number ≡ 0) × (Bursts a b → ⊥) × (records room < length (norm (Lex 4) p (mul (polyOf base a) (polyOf base b)))))
-  product-full = (
-    λ h. told-ten p a b room work r out spent h taken .0,
-    λ h. ten-told p a b room work r out spent (h .0) (h .1) (h .2) taken,
-  )
+  product-full =
+      let n = replies ended 10 (inr (omega arith)) in
+      let m = reply-ten p a b room work in
+      (λ h. let t = n .0 h in let u = m .0 (t .1) in (t .0, u .0, u .1), λ h. n .1 (h .0, m .1 (h .1, h .2)))
 
   pub product-done : (r .number ≡ 0) ↔ ((due p a b room work .number ≡ 0) × (Bursts a b → ⊥) × (length (norm (Lex 4) p (mul (polyOf base a) (polyOf base b))) ≤ records room))
-  product-done = (
-    λ h. told-done p a b room work r out spent h taken .0,
-    λ h. done-told p a b room work r out spent (h .0) (h .1) (h .2) taken,
-  )
+  product-done =
+      let n = replies ended 0 (inl refl) in
+      let m = reply-zero p a b room work in
+      (λ h. let t = n .0 h in let u = m .0 (t .1) in (t .0, u .0, u .1), λ h. n .1 (h .0, m .1 (h .1, h .2)))
 
   -- Outputs and work afterwards
 
   pub product-unchanged : 0 < r .number → r .number ≤ 8 → (out ≡ room) × (spent ≡ work)
-  product-unchanged h k = let t = told-due p a b room work r out spent h k taken in (t .1, t .2)
-
-  pub product-nine : r .number ≡ 9 → (r ≡ refusal 9 0 0) × (out ≡ cleared room) × (spent ≡ cleared work)
-  product-nine h = told-nine p a b room work r out spent h taken .2
-
-  pub product-ten : r .number ≡ 10 → (r ≡ refusal 10 0 0) × (out ≡ cleared room) × (spent ≡ cleared work)
-  product-ten h = told-ten p a b room work r out spent h taken .1
+  product-unchanged h k = let t = parts (told-refused ended h k) in (t .1, t .2)
 
   pub product-cleared : 8 < r .number → (r ≡ refusal (r .number) 0 0) × (out ≡ cleared room) × (spent ≡ cleared work)
-  product-cleared h = told-over p a b room work r out spent h taken .1
+  product-cleared h =
+      let t = told-stopped ended h in
+      let o = parts (t .2) in
+      (o .0 ∙ ap (λ (n : ℕ). refusal n 0 0) (t .1), o .1, o .2)
 
   pub product-accepts : (r .number ≡ 0) ⊎ (8 < r .number) → Good p a b room × (4 * min (records a) (records b) ≤ length work)
   product-accepts c = (factors-good p a b room work (passed c), work-good p a b room work (passed c))
     where
       passed : (r .number ≡ 0) ⊎ (8 < r .number) → due p a b room work .number ≡ 0
       passed (inl t) = product-done .0 t .0
-      passed (inr h) = told-over p a b room work r out spent h taken .0
+      passed (inr h) = told-stopped ended h .0
 
   pub product-written : r .number ≡ 0 → (r ≡ done (length (norm (Lex 4) p (mul (polyOf base a) (polyOf base b)))) 0) × (out ≡ filled (length room) (wordsOf base (norm (Lex 4) p (mul (polyOf base a) (polyOf base b))))) × (spent ≡ cleared work)
-  product-written h = told-done p a b room work r out spent h taken .1
+  product-written h = parts (told-finished ended h .2)
 
   -- With reply 0
 

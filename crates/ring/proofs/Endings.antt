@@ -1,14 +1,15 @@
--- How a call ends: refused by the first rule due, stopped by its walk, or finished.
+-- How a call ends: refused by the first rule due, stopped by a later reply, or finished.
 --
+--   FirstDue rs q     the report q stands in the list rs, refuses, and all before it passed
 --   firstOf           the first of the rules that is due
 --   Ends              a call that ends in one of these ways, and what its report says in each
 --   told-refused, told-stopped, told-finished      what a report's number says of the way
 --   refuses           each of 1 to 8 is told exactly when it is the first due of the ordered rules
---   replies           the other numbers exactly when none of those is due and they are the walk's reply
+--   replies           the other numbers exactly when none of those is due and they are the later reply
 use Prim.Native.Nat.{ℕ, _<_, _≤_}
 use mathlib.Core.Path.{_≡_, sym, _∙_, ap}
 use mathlib.Core.Bool.{Bool}
-use mathlib.Core.List.{List}
+use mathlib.Core.List.{List, [], _∷_, _++_}
 use mathlib.Core.Logic.{_⊎_, inl, inr, _↔_}
 use native.Mathlib.Decide.{ℕ-discrete}
 use native.Mathlib.Omega.{arith}
@@ -17,13 +18,51 @@ use borrow.Author.Tests.{eq-eqb, ne-eqb}
 use Rattle.algebra.specs.Residues.{pick}
 use Rattle.poly.specs.Reports.{none, refusal, firstOr}
 use Rattle.poly.specs.declared.report.Report.{Report}
-use Rattle.ring.proofs.Multiplying.{FirstDue, fold-first-due}
+use Rattle.poly.proofs.Reports.{Passed, or-else-next, or-else-here, fold-tells}
+
+-- The first rule that is due
+
+pub record FirstDue (rs : List Report) (q : Report) : Type 0 where
+  pub before : List Report
+  pub after : List Report
+  pub stands : rs ≡ before ++ q ∷ after
+  pub passed : Passed before
+  pub refuses : q .number ≡ 0 → ⊥
+
+fold-due : (rs : List Report) (q : Report) → (q .number ≡ 0 → ⊥) → firstOr rs none ≡ q → FirstDue rs q
+fold-due [] q n e = absurd (n (ap (λ (x : Report). x .number) (sym e)))
+fold-due (r ∷ rs) q n e = go (ℕ-discrete (r .number) 0) (fold-due rs q n)
+  where
+    go : Dec (r .number ≡ 0) → (firstOr rs none ≡ q → FirstDue rs q) → FirstDue (r ∷ rs) q
+    go (yes z) later =
+        let d = later (sym (or-else-next r (firstOr rs none) z) ∙ e) in
+        record {
+          before = r ∷ d .before;
+          after = d .after;
+          stands = ap (λ (x : List Report). r ∷ x) (d .stands);
+          passed = (z, d .passed);
+          refuses = n;
+        }
+    go (no z) later =
+        record {
+          before = [];
+          after = rs;
+          stands = ap (λ (x : Report). x ∷ rs) (sym (or-else-here r (firstOr rs none) z) ∙ e);
+          passed = tt;
+          refuses = n;
+        }
+
+pub fold-first-due : (rs : List Report) (q : Report) → 0 < q .number → (firstOr rs none ≡ q) ↔ FirstDue rs q
+fold-first-due rs q h = (
+  fold-due rs q (λ z. omega arith),
+  λ d. ap (λ (x : List Report). firstOr x none) (d .stands) ∙ fold-tells (d .before) q (d .after) none (d .passed) (d .refuses),
+)
 
 -- the first of the rules that is due, `none` where none is
 abbrev pub firstOf : List Report → Report
 firstOf rules = firstOr rules none
 
--- what a call leaves behind, o, is one of three: by the first rule due, and by the walk's reply
+-- What a call leaves behind, o, is one of three: by the first rule due, and by the reply where none is, as a walk ends with one.
 pub record Ends {A : Type 0} (report : A → Report) (rules : List Report) (reply : ℕ) (refused stopped finished o : A) : Type 0 where
   pub due-within : firstOf rules .number ≤ 8
   pub reply-over : firstOf rules .number ≡ 0 → (reply ≡ 0) ⊎ (8 < reply)
@@ -38,7 +77,7 @@ module _ {A : Type 0} {report : A → Report} {rules : List Report} {reply : ℕ
 
   data Way : Type 0 where
     by-rule : (due .number ≡ 0 → ⊥) → o ≡ refused → Way
-    by-walk : due .number ≡ 0 → (reply ≡ 0 → ⊥) → o ≡ stopped → Way
+    by-reply : due .number ≡ 0 → (reply ≡ 0 → ⊥) → o ≡ stopped → Way
     to-end : due .number ≡ 0 → reply ≡ 0 → o ≡ finished → Way
 
   way : Way
@@ -47,7 +86,7 @@ module _ {A : Type 0} {report : A → Report} {rules : List Report} {reply : ℕ
     | yes z ↦
         let on : o ≡ pick (eqb reply 0) finished stopped = E .ended ∙ ap (λ (b : Bool). pick b (pick (eqb reply 0) finished stopped) refused) (eq-eqb (due .number) 0 z) in
         elim (ℕ-discrete reply 0) [
-          | no n ↦ by-walk z n (on ∙ ap (λ (b : Bool). pick b finished stopped) (ne-eqb reply 0 n))
+          | no n ↦ by-reply z n (on ∙ ap (λ (b : Bool). pick b finished stopped) (ne-eqb reply 0 n))
           | yes d ↦ to-end z d (on ∙ ap (λ (b : Bool). pick b finished stopped) (eq-eqb reply 0 d))
         ]
   ]
@@ -79,7 +118,7 @@ module _ {A : Type 0} {report : A → Report} {rules : List Report} {reply : ℕ
     where
       go : Way → o ≡ refused
       go (by-rule n d) = d
-      go (by-walk z n d) = absurd (omega (arith, numbers (by-stopped d), stopped-over z n))
+      go (by-reply z n d) = absurd (omega (arith, numbers (by-stopped d), stopped-over z n))
       go (to-end z n d) = absurd (omega (arith, by-finished d))
 
   pub told-stopped : 8 < number → (due .number ≡ 0) × (reply ≡ number) × (o ≡ stopped)
@@ -87,7 +126,7 @@ module _ {A : Type 0} {report : A → Report} {rules : List Report} {reply : ℕ
     where
       go : Way → (due .number ≡ 0) × (reply ≡ number) × (o ≡ stopped)
       go (by-rule n d) = absurd (omega (arith, numbers (by-refused d), E .due-within))
-      go (by-walk z n d) = (z, sym (numbers (by-stopped d)), d)
+      go (by-reply z n d) = (z, sym (numbers (by-stopped d)), d)
       go (to-end z n d) = absurd (omega (arith, by-finished d))
 
   pub told-finished : number ≡ 0 → (due .number ≡ 0) × (reply ≡ 0) × (o ≡ finished)
@@ -95,16 +134,16 @@ module _ {A : Type 0} {report : A → Report} {rules : List Report} {reply : ℕ
     where
       go : Way → (due .number ≡ 0) × (reply ≡ 0) × (o ≡ finished)
       go (by-rule n d) = absurd (n (sym (numbers (by-refused d)) ∙ h))
-      go (by-walk z n d) = absurd (n (sym (numbers (by-stopped d)) ∙ h))
+      go (by-reply z n d) = absurd (n (sym (numbers (by-stopped d)) ∙ h))
       go (to-end z n d) = (z, n, d)
 
-  -- where none of 1 to 8 is due, the number is the walk's reply
-  walk-told : due .number ≡ 0 → number ≡ reply
-  walk-told z = go way
+  -- where none of 1 to 8 is due, the number is that reply
+  reply-told : due .number ≡ 0 → number ≡ reply
+  reply-told z = go way
     where
       go : Way → number ≡ reply
       go (by-rule n d) = absurd (n z)
-      go (by-walk z n d) = numbers (by-stopped d)
+      go (by-reply z n d) = numbers (by-stopped d)
       go (to-end z n d) = by-finished d ∙ sym n
 
   due-told : (due .number ≡ 0 → ⊥) → report o ≡ due
@@ -112,7 +151,7 @@ module _ {A : Type 0} {report : A → Report} {rules : List Report} {reply : ℕ
     where
       go : Way → report o ≡ due
       go (by-rule n d) = by-refused d
-      go (by-walk z m d) = absurd (n z)
+      go (by-reply z m d) = absurd (n z)
       go (to-end z m d) = absurd (n z)
 
   -- Of 1 to 8 the lowest number wins, then the lowest operand, then the lowest term.
@@ -125,7 +164,7 @@ module _ {A : Type 0} {report : A → Report} {rules : List Report} {reply : ℕ
 
   -- 0 and the numbers from 9 on
   pub replies : (n : ℕ) → (n ≡ 0) ⊎ (8 < n) → (number ≡ n) ↔ ((due .number ≡ 0) × (reply ≡ n))
-  replies n c = (λ d. (passed c d, sym (walk-told (passed c d)) ∙ d), λ d. walk-told (d .0) ∙ d .1)
+  replies n c = (λ d. (passed c d, sym (reply-told (passed c d)) ∙ d), λ d. reply-told (d .0) ∙ d .1)
     where
       passed : (n ≡ 0) ⊎ (8 < n) → number ≡ n → due .number ≡ 0
       passed (inl z) d = told-finished (d ∙ z) .0
