@@ -23,25 +23,24 @@ use Rattle.algebra.proofs.NormalForm.{equal-refl, equal-sym, equal-trans, norm-
 use Rattle.algebra.proofs.Ring.{sum-comm, sum-assoc, sum-negated, sum-equal, mul-comm, mul-assoc, mul-one, mul-sum, mul-equal}
 use Rattle.monomial.specs.Layout.{base}
 use Rattle.poly.specs.Words.{records, polyOf, filled}
-use Rattle.poly.specs.Reports.{none, done, firstOr}
+use Rattle.poly.specs.Reports.{none, done, firstOr, FirstDue}
 use Rattle.poly.specs.Valid.{Valid}
 use Rattle.poly.specs.declared.report.Report.{Report}
 use Rattle.poly.specs.Services.{checkOf}
 use Rattle.poly.proofs.check.check.Reads as check
 use Rattle.ring.specs.Outcomes.{cleared}
-use Rattle.ring.specs.Calls.{twoInputs}
+use Rattle.ring.specs.Calls.{twoInputs, Bursts, productRules}
 use Rattle.ring.proofs.sums.sum.Reads as sum
 use Rattle.ring.proofs.sums.difference.Reads as difference
 use Rattle.ring.proofs.product.product.Reads as product
-use Rattle.ring.proofs.Endings.{FirstDue, fold-first-due}
-use Rattle.ring.proofs.Multiplying.{rules, Bursts}
+use Rattle.ring.proofs.Endings.{fold-first-due}
 use Rattle.ring.proofs.SumClaims as sums
 use Rattle.ring.proofs.DifferenceClaims as differences
 use Rattle.ring.proofs.ProductClaims as products
 use Rattle.division.specs.Calls.{divideRules, testRules, divisionJudges, testJudges, walkBy}
+use Rattle.division.specs.Stops.{Left, DivisionDue, TestDue}
 use Rattle.division.proofs.division.divide.Reads as divide
 use Rattle.division.proofs.test.divides.Reads as divides
-use Rattle.division.proofs.Verdicts.{Left, DivisionDue, TestDue}
 use Rattle.division.proofs.DivisionClaims as divisions
 use Rattle.division.proofs.TestClaims as tests
 use Rattle.claims.specs.Demands.{P, Ring, front, Result, lead, Pair, terms}
@@ -227,7 +226,7 @@ pub product-refuses : (κs : _) (x : _) (t : _) (s : _) → product.Post κs x t
     let b = now (x .1 .1 .0) in
     let room = now (x .1 .1 .1 .0) in
     let work = now (x .1 .1 .1 .1 .0) in
-    (n : Report) → 0 < n .number → n .number ≤ 8 → (t ≡ n) ↔ FirstDue (rules p a b room work) n
+    (n : Report) → 0 < n .number → n .number ≤ 8 → (t ≡ n) ↔ FirstDue (productRules p a b room work) n
 product-refuses = products.product-refuses
 
 -- 9 exactly when M(a, v) + M(b, v) is over 32,767 for some v.
@@ -237,7 +236,7 @@ pub product-bursts : (κs : _) (x : _) (t : _) (s : _) → product.Post κs x t 
     let b = now (x .1 .1 .0) in
     let room = now (x .1 .1 .1 .0) in
     let work = now (x .1 .1 .1 .1 .0) in
-    (t .number ≡ 9) ↔ ((firstOr (rules p a b room work) none .number ≡ 0) × Bursts a b)
+    (t .number ≡ 9) ↔ ((firstOr (productRules p a b room work) none .number ≡ 0) × Bursts a b)
 product-bursts = products.product-bursts
 
 -- Else 10 exactly when the true product, after cancellation, has more terms than the room.
@@ -247,7 +246,7 @@ pub product-full : (κs : _) (x : _) (t : _) (s : _) → product.Post κs x t s 
     let b = now (x .1 .1 .0) in
     let room = now (x .1 .1 .1 .0) in
     let work = now (x .1 .1 .1 .1 .0) in
-    (t .number ≡ 10) ↔ ((firstOr (rules p a b room work) none .number ≡ 0) × (Bursts a b → ⊥) × (records room < terms p (mul (polyOf base a) (polyOf base b))))
+    (t .number ≡ 10) ↔ ((firstOr (productRules p a b room work) none .number ≡ 0) × (Bursts a b → ⊥) × (records room < terms p (mul (polyOf base a) (polyOf base b))))
 product-full = products.product-full
 
 pub product-done : (κs : _) (x : _) (t : _) (s : _) → product.Post κs x t s →
@@ -256,7 +255,7 @@ pub product-done : (κs : _) (x : _) (t : _) (s : _) → product.Post κs x t s 
     let b = now (x .1 .1 .0) in
     let room = now (x .1 .1 .1 .0) in
     let work = now (x .1 .1 .1 .1 .0) in
-    (t .number ≡ 0) ↔ ((firstOr (rules p a b room work) none .number ≡ 0) × (Bursts a b → ⊥) × (terms p (mul (polyOf base a) (polyOf base b)) ≤ records room))
+    (t .number ≡ 0) ↔ ((firstOr (productRules p a b room work) none .number ≡ 0) × (Bursts a b → ⊥) × (terms p (mul (polyOf base a) (polyOf base b)) ≤ records room))
 product-done = products.product-done
 
 pub division-refuses : (κs : _) (x : _) (t : _) (s : _) → divide.Post κs x t s →

@@ -29,19 +29,20 @@ use Rattle.algebra.proofs.NormalForm.{norm-self}
 use Rattle.algebra.proofs.Leads.{prime-positive}
 use Rattle.monomial.specs.Layout.{base}
 use Rattle.poly.specs.Words.{records, termAt, terms, polyOf, wordsOf, filled}
-use Rattle.poly.specs.Reports.{refusal, done}
+use Rattle.poly.specs.Reports.{refusal, done, FirstDue}
 use Rattle.poly.specs.Rules.{roomTerms}
 use Rattle.poly.specs.Valid.{Valid}
 use Rattle.poly.specs.declared.report.Report.{Report}
 use Rattle.poly.proofs.Readings.{length-poly, valid-normal, valid-fits, valid-words-of}
 use Rattle.ring.specs.Outcomes.{cleared}
 use Rattle.ring.proofs.Transport.{filled-poly}
-use Rattle.ring.proofs.Endings.{FirstDue, firstOf, Ends, told-refused, told-stopped, told-finished, refuses, replies}
+use Rattle.ring.proofs.Endings.{firstOf, Ends, told-refused, told-stopped, told-finished, refuses, replies}
 use Rattle.division.specs.Calls.{quotientRoom, remainderRoom, divideRules, divisionJudges, walkBy, Divided, divided, divideOf}
+use Rattle.division.specs.Stops.{Left, DivisionDue}
 use Rattle.division.proofs.Runs.{divisor-terms}
 use Rattle.division.proofs.Accepted.{Good, divide-good}
 use Rattle.division.proofs.Due.{fold-within}
-use Rattle.division.proofs.Verdicts.{Left, DivisionDue, DivisionSays, division-says}
+use Rattle.division.proofs.Verdicts.{DivisionSays, division-says}
 use Rattle.division.proofs.division.divide.Reads as call
 
 abbrev reportOf : Divided → Report

@@ -24,18 +24,19 @@ use Rattle.algebra.specs.Polynomials.{Poly, mul, norm, Equal, Normal}
 use Rattle.algebra.specs.Walk.{Walked}
 use Rattle.monomial.specs.Layout.{base}
 use Rattle.poly.specs.Words.{records, termAt, terms, polyOf, wordsOf, filled}
-use Rattle.poly.specs.Reports.{refusal, done}
+use Rattle.poly.specs.Reports.{refusal, done, FirstDue}
 use Rattle.poly.specs.declared.report.Report.{Report}
 use Rattle.poly.proofs.Readings.{valid-normal, valid-fits}
 use Rattle.ring.specs.Outcomes.{Outcome, outcome, cleared}
 use Rattle.ring.proofs.Transport.{filled-poly}
-use Rattle.ring.proofs.Endings.{FirstDue, firstOf, Ends, told-refused, told-stopped, told-finished, refuses, replies}
+use Rattle.ring.proofs.Endings.{firstOf, Ends, told-refused, told-stopped, told-finished, refuses, replies}
 use Rattle.ring.proofs.ProductClaims.{parts}
 use Rattle.division.specs.Calls.{quotientRoom, testRules, testJudges, walkBy, dividesOf}
+use Rattle.division.specs.Stops.{Left, TestDue}
 use Rattle.division.proofs.Runs.{divisor-terms}
 use Rattle.division.proofs.Accepted.{Good, test-good}
 use Rattle.division.proofs.Due.{fold-within}
-use Rattle.division.proofs.Verdicts.{Left, TestDue, TestSays, test-says}
+use Rattle.division.proofs.Verdicts.{TestSays, test-says}
 use Rattle.division.proofs.test.divides.Reads as call
 
 abbrev reportOf : Outcome → Report

@@ -1,6 +1,5 @@
 -- What the walks of division and of the divide test say of all polynomials, of any size.
 --
---   Over m b             some exponent of m is over that letter's bound in b
 --   DivisionSays         division: its replies; with 0 the only pair f ≡ q · g + r; of a multiple of g the quotient; where it stops, why
 --   division-says        the walk of division says so
 --   TestSays             the divide test: yes, no or no room, and what each says of every polynomial; where it stops, why
@@ -18,7 +17,7 @@ use borrow.Author.Tests.{ltb-true, ltb-false}
 use Rattle.algebra.specs.Residues.{Same, Prime, pick, first}
 use Rattle.algebra.specs.Monomials.{Letters, exponent}
 use Rattle.algebra.specs.Orders.{Lex, exponents, exponent-adds}
-use Rattle.algebra.specs.Polynomials.{Term, Poly, coef, Equal, NoMultiple, mul, largest, norm, All, Falling, Normal}
+use Rattle.algebra.specs.Polynomials.{Term, Poly, coef, Equal, NoMultiple, mul, largest, norm, All, Normal}
 use Rattle.algebra.specs.Walk.{Judges, Walked, unfinished, walk}
 use Rattle.algebra.proofs.Scan.{first-hit, first-miss}
 use Rattle.algebra.proofs.NormalForm.{Small, reduced-small, all-map}
@@ -30,16 +29,12 @@ use Rattle.algebra.proofs.Verdicts.{done-divides, done-only, next-coef, refused
 use Rattle.monomial.specs.Layout.{base, fits, divides}
 use Rattle.monomial.proofs.Fields.{fits-letters, divides-letters, exponent-none, factor-fits, divides-fits}
 use Rattle.monomial.proofs.Laws.{write, fit, word-monomial, monomial-below}
+use Rattle.division.specs.Stops.{Over, Left, DivisionDue, TestDue}
 use Rattle.division.specs.Calls.{maxima, unlessFull, divisionJudges, testJudges, steps}
 use Rattle.division.proofs.Judging.{maxima-exponent}
 use Rattle.division.proofs.Heights.{heights}
 
 -- Letters
-
-pub record Over (m : Letters 4 .Mon) (b : ℕ → ℕ) : Type 0 where
-  pub letter : ℕ
-  pub one-of-four : letter < 4
-  pub over : b letter < exponent 4 letter m
 
 -- exponents of t plus M(g, v), letter by letter
 sum-letter : (g : Poly (Letters 4)) (m : Letters 4 .Mon) (v : ℕ) → v < 4 → exponent 4 v (Letters 4 .mul m (maxima g)) ≡ exponent 4 v m + largest (exponent 4 v) g
@@ -88,37 +83,6 @@ passed-test true n m k e = refl
 passed-test false n m k e = absurd (k e)
 
 -- What the papers say of a walk w down f by g, whose lead monomial is given
-
--- what was written so far, what is left, and its greatest term
-pub record Left (p : ℕ) (f g : Poly (Letters 4)) (w : Walked (Letters 4)) : Type 0 where
-  pub at : Term (Letters 4)
-  pub below : Poly (Letters 4)
-  pub equation : Equal p f (mul (w .quotient) g ++ (w .remainder ++ at ∷ below))
-  pub falling : Falling (Lex 4) (at ∷ below)
-  pub number : 0 < at .num
-
--- the exponents of m times g's maxima, over the largest exponent or over M(f, v)
-abbrev pub Bursts : Letters 4 .Mon → Poly (Letters 4) → Type 0
-Bursts m g = Over (Letters 4 .mul m (maxima g)) (λ v. 32767)
-
-abbrev pub Exceeds : Letters 4 .Mon → Poly (Letters 4) → Poly (Letters 4) → Type 0
-Exceeds m g f = Over (Letters 4 .mul m (maxima g)) (λ v. largest (exponent 4 v) f)
-
--- The term `at` is the greatest of what is left, i quotient and j remainder terms are written, and the reply n is due: 9 where its
--- quotient's exponents burst, else 10 where the quotient room is full, or 11 where it goes to the remainder and that room is full.
-abbrev pub DivisionDue : Poly (Letters 4) → Letters 4 .Mon → ℕ → ℕ → ℕ → ℕ → Letters 4 .Mon → ℕ → Type 0
-DivisionDue g lead q r i j at n =
-    ((n ≡ 9) × (m : Letters 4 .Mon) × (Letters 4 .mul lead m ≡ at) × Bursts m g)
-    ⊎ (((n ≡ 10) × (m : Letters 4 .Mon) × (Letters 4 .mul lead m ≡ at) × (Bursts m g → ⊥) × (q ≤ i))
-    ⊎ ((n ≡ 11) × ((m : Letters 4 .Mon) → Letters 4 .mul lead m ≡ at → ⊥) × (r ≤ j)))
-
--- The same of the divide test: 12 where the quotient's exponents exceed M(f, v), else 10 where the room is full, or 12 where the
--- lead does not divide.
-abbrev pub TestDue : Poly (Letters 4) → Poly (Letters 4) → Letters 4 .Mon → ℕ → ℕ → Letters 4 .Mon → ℕ → Type 0
-TestDue f g lead q i at n =
-    ((n ≡ 12) × (m : Letters 4 .Mon) × (Letters 4 .mul lead m ≡ at) × Exceeds m g f)
-    ⊎ (((n ≡ 10) × (m : Letters 4 .Mon) × (Letters 4 .mul lead m ≡ at) × (Exceeds m g f → ⊥) × (q ≤ i))
-    ⊎ ((n ≡ 12) × ((m : Letters 4 .Mon) → Letters 4 .mul lead m ≡ at → ⊥)))
 
 pub record DivisionSays (p : ℕ) (f g : Poly (Letters 4)) (lead : Letters 4 .Mon) (q r : ℕ) (w : Walked (Letters 4)) : Type 0 where
   pub replies : (w .reply ≡ 0) ⊎ (8 < w .reply)

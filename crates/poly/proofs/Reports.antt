@@ -1,7 +1,6 @@
 -- Laws of reports.
 --
 --   chain            one link of an ordered fold of rules
---   Passed rs        every report of rs has the number 0
 --   passed-append, append-passed     of two lists of reports, one after the other
 --   fold-passed      a fold that refuses nothing: every report of it passed, and the last
 --   passed-fold      where every report passed, the fold answers the last
@@ -21,7 +20,7 @@ use lib.Dec.{eqb}
 use lib.ListN.{length}
 use borrow.Author.Tests.{eqb-true, eqb-false, eq-eqb, ne-eqb}
 use Rattle.algebra.specs.Residues.{pick}
-use Rattle.poly.specs.Reports.{orElse, firstOr}
+use Rattle.poly.specs.Reports.{orElse, firstOr, Passed}
 use Rattle.poly.specs.declared.report.Report.{Report}
 
 pub chain : {t q q′ s s′ : Report} → t ≡ orElse q s → q ≡ q′ → s ≡ s′ → t ≡ orElse q′ s′
@@ -44,10 +43,6 @@ module _ (a b : Report) where
       go false h k = absurd (eqb-false (a .number) 0 h k)
 
 -- A fold
-
-abbrev pub Passed : List Report → Type 0
-Passed [] = Unit {0}
-Passed (r ∷ rs) = (r .number ≡ 0) × Passed rs
 
 pub passed-append : (rs ss : List Report) → Passed (rs ++ ss) → Passed rs × Passed ss
 passed-append [] ss h = (tt, h)

@@ -31,7 +31,7 @@ use Rattle.algebra.proofs.Scan.{first-hit, first-miss, first-unique}
 use Rattle.field.specs.Moduli.{isModulus}
 use Rattle.monomial.specs.Layout.{base, isMonomial}
 use Rattle.poly.specs.Words.{records, wordAt, numberAt}
-use Rattle.poly.specs.Reports.{none, refusal, done, firstOr}
+use Rattle.poly.specs.Reports.{none, refusal, done, firstOr, Passed}
 use Rattle.poly.specs.Rules.{
   inputTerms,
   unless,
@@ -56,7 +56,7 @@ use Rattle.poly.specs.Rules.{
 use Rattle.poly.specs.Services.{asInput, checkOf}
 use Rattle.poly.specs.Valid.{Valid}
 use Rattle.poly.specs.declared.report.Report.{Report}
-use Rattle.poly.proofs.Reports.{Own, Ascending, Passed, passed-append, append-passed, fold-append, fold-passed, passed-fold, fold-told}
+use Rattle.poly.proofs.Reports.{Own, Ascending, passed-append, append-passed, fold-append, fold-passed, passed-fold, fold-told}
 
 pub record Shaped (s : Lent) : Type 0 where
   pub even : length (s .words) ≡ 2 * records (s .words)

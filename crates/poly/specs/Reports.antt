@@ -5,8 +5,11 @@
 --   done first second        reply 0, with the terms of the two outputs
 --   orElse a b               the refusal a if it is due, else b
 --   firstOr rs otherwise     the first refusal due of an ordered list, else the report given
+--   Passed rs                no refusal of the list is due
+--   FirstDue rs r            r stands in the list and is due, and all before it passed
 use Prim.Native.Nat.{ℕ}
-use mathlib.Core.List.{List, [], _∷_}
+use mathlib.Core.Path.{_≡_}
+use mathlib.Core.List.{List, [], _∷_, _++_}
 use lib.Dec.{eqb}
 use Rattle.algebra.specs.Residues.{pick}
 use Rattle.poly.specs.declared.report.Report.{Report}
@@ -26,3 +29,14 @@ orElse a b = pick (eqb (a .number) 0) b a
 abbrev pub firstOr : List Report → Report → Report
 firstOr [] otherwise = otherwise
 firstOr (r ∷ rs) otherwise = orElse r (firstOr rs otherwise)
+
+abbrev pub Passed : List Report → Type 0
+Passed [] = Unit {0}
+Passed (r ∷ rs) = (r .number ≡ 0) × Passed rs
+
+pub record FirstDue (rs : List Report) (r : Report) : Type 0 where
+  pub before : List Report
+  pub after : List Report
+  pub stands : rs ≡ before ++ r ∷ after
+  pub passed : Passed before
+  pub refuses : r .number ≡ 0 → ⊥

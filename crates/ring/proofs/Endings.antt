@@ -1,6 +1,6 @@
 -- How a call ends: refused by the first rule due, stopped by a later reply, or finished.
 --
---   FirstDue rs q     the report q stands in the list rs, refuses, and all before it passed
+--   fold-first-due    a fold tells a refusal exactly when it is the first due
 --   firstOf           the first of the rules that is due
 --   Ends              a call that ends in one of these ways, and what its report says in each
 --   told-refused, told-stopped, told-finished      what a report's number says of the way
@@ -9,25 +9,18 @@
 use Prim.Native.Nat.{ℕ, _<_, _≤_}
 use mathlib.Core.Path.{_≡_, sym, _∙_, ap}
 use mathlib.Core.Bool.{Bool}
-use mathlib.Core.List.{List, [], _∷_, _++_}
+use mathlib.Core.List.{List, [], _∷_}
 use mathlib.Core.Logic.{_⊎_, inl, inr, _↔_}
 use native.Mathlib.Decide.{ℕ-discrete}
 use native.Mathlib.Omega.{arith}
 use lib.Dec.{eqb}
 use borrow.Author.Tests.{eq-eqb, ne-eqb}
 use Rattle.algebra.specs.Residues.{pick}
-use Rattle.poly.specs.Reports.{none, refusal, firstOr}
+use Rattle.poly.specs.Reports.{none, refusal, firstOr, FirstDue}
 use Rattle.poly.specs.declared.report.Report.{Report}
-use Rattle.poly.proofs.Reports.{Passed, or-else-next, or-else-here, fold-tells}
+use Rattle.poly.proofs.Reports.{or-else-next, or-else-here, fold-tells}
 
 -- The first rule that is due
-
-pub record FirstDue (rs : List Report) (q : Report) : Type 0 where
-  pub before : List Report
-  pub after : List Report
-  pub stands : rs ≡ before ++ q ∷ after
-  pub passed : Passed before
-  pub refuses : q .number ≡ 0 → ⊥
 
 fold-due : (rs : List Report) (q : Report) → (q .number ≡ 0 → ⊥) → firstOr rs none ≡ q → FirstDue rs q
 fold-due [] q n e = absurd (n (ap (λ (x : Report). x .number) (sym e)))

@@ -1,8 +1,7 @@
 -- What the product does, from its definition.
 --
---   rules, due           the rules 1 to 8 of the call in their order; the first that is due, with the number 0 where none is
+--   due                  the first of the rules that is due, with the number 0 where none is
 --   product              the true product of the two factors, after cancellation
---   Bursts               M(a, v) + M(b, v) is over 32,767 for some letter v
 --   reply                9, 10 or 0 of a product where none of the rules is due
 --   reply-nine, reply-ten, reply-zero     what it says of the letters and of the room
 --   ends                 how the call ends: refused by the first rule due, stopped with the reply, or finished
@@ -13,7 +12,7 @@
 use Prim.Native.Nat.{ℕ, _+_, _*_, _<_, _≤_, min}
 use mathlib.Core.Path.{_≡_, refl, sym, _∙_, ap}
 use mathlib.Core.Bool.{Bool, true, false}
-use mathlib.Core.List.{List, [], _∷_, _++_}
+use mathlib.Core.List.{List, [], _∷_}
 use mathlib.Core.Logic.{_⊎_, inl, inr, _↔_}
 use native.Mathlib.Nat.{pos-of-ne-zero}
 use native.Mathlib.Decide.{ℕ-discrete, decLt, decLe}
@@ -27,7 +26,7 @@ use Rattle.algebra.specs.Orders.{Lex}
 use Rattle.algebra.specs.Polynomials.{Poly, mul, largest, norm}
 use Rattle.algebra.proofs.NormalForm.{norm-unique}
 use Rattle.algebra.proofs.Ring.{mul-comm}
-use Rattle.monomial.specs.Layout.{base, largestExponent}
+use Rattle.monomial.specs.Layout.{base}
 use Rattle.poly.specs.Words.{records, terms, polyOf, wordsOf, filled}
 use Rattle.poly.specs.Reports.{none, done, refusal, orElse, firstOr}
 use Rattle.poly.specs.Rules.{unless, workRule}
@@ -35,24 +34,16 @@ use Rattle.poly.specs.declared.report.Report.{Report}
 use Rattle.poly.proofs.Reports.{passed-append, fold-append, fold-passed, passed-fold, fold-refused}
 use Rattle.poly.proofs.Valid.{work-passed}
 use Rattle.ring.specs.Outcomes.{Outcome, outcome, cleared}
-use Rattle.ring.specs.Calls.{twoInputs, burstAt, multiplied, productOf}
+use Rattle.ring.specs.Calls.{twoInputs, burstAt, Bursts, productRules, multiplied, productOf}
 use Rattle.ring.proofs.Refusals.{Good, inputs-good, due-within}
 use Rattle.ring.proofs.Endings.{Ends}
 use Rattle.ring.proofs.Bursts.{burst-some, no-burst, exponents-most}
 
-abbrev pub rules : ℕ → List ℕ → List ℕ → List ℕ → List ℕ → List Report
-rules p a b room work = twoInputs p a b room ++ (workRule (4 * min (records a) (records b)) work ∷ [])
-
 abbrev pub due : ℕ → List ℕ → List ℕ → List ℕ → List ℕ → Report
-due p a b room work = firstOr (rules p a b room work) none
+due p a b room work = firstOr (productRules p a b room work) none
 
 abbrev pub product : ℕ → List ℕ → List ℕ → Poly (Letters 4)
 product p a b = norm (Lex 4) p (mul (polyOf base a) (polyOf base b))
-
-pub record Bursts (a b : List ℕ) : Type 0 where
-  pub letter : ℕ
-  pub one-of-four : letter < 4
-  pub over : largestExponent 16 < largest (exponent 4 letter) (polyOf base a) + largest (exponent 4 letter) (polyOf base b)
 
 -- Numbers of refusals
 
@@ -93,7 +84,7 @@ module _ (p : ℕ) (a b room work : List ℕ) where
   pub work-good : due p a b room work .number ≡ 0 → 4 * min (records a) (records b) ≤ length work
   work-good z =
       let least = 4 * min (records a) (records b) in
-      work-passed least work (passed-append (twoInputs p a b room) (workRule least work ∷ []) (fold-passed (rules p a b room work) none z .0) .1 .0)
+      work-passed least work (passed-append (twoInputs p a b room) (workRule least work ∷ []) (fold-passed (productRules p a b room work) none z .0) .1 .0)
 
   -- Letters that burst
 
@@ -185,7 +176,7 @@ module _ (p : ℕ) (a b room work : List ℕ) where
   by-reply false true = refl
   by-reply false false = refl
 
-  pub ends : (o : Outcome) → o ≡ productOf p a b room work → Ends (λ (x : Outcome). x .report) (rules p a b room work) reply (outcome (due p a b room work) room work) stopped finished o
+  pub ends : (o : Outcome) → o ≡ productOf p a b room work → Ends (λ (x : Outcome). x .report) (productRules p a b room work) reply (outcome (due p a b room work) room work) stopped finished o
   unfolding productOf multiplied
   ends o e =
       record {

@@ -31,14 +31,15 @@ use Rattle.algebra.proofs.NormalForm.{norm-all, norm-normal, norm-equal, equal-
 use Rattle.monomial.specs.Layout.{base}
 use Rattle.monomial.proofs.Laws.{fit}
 use Rattle.poly.specs.Words.{records, polyOf, wordsOf, filled}
-use Rattle.poly.specs.Reports.{refusal, done}
+use Rattle.poly.specs.Reports.{refusal, done, FirstDue}
 use Rattle.poly.specs.declared.report.Report.{Report}
 use Rattle.ring.specs.Outcomes.{Outcome, outcome, cleared}
+use Rattle.ring.specs.Calls.{Bursts, productRules}
 use Rattle.ring.proofs.Refusals.{Good}
 use Rattle.ring.proofs.Bursts.{products-fit}
 use Rattle.ring.proofs.Transport.{filled-poly}
-use Rattle.ring.proofs.Endings.{FirstDue, Ends, told-refused, told-stopped, told-finished, refuses, replies}
-use Rattle.ring.proofs.Multiplying.{rules, due, product, Bursts, factors-good, work-good, bursts-not, reply, reply-nine, reply-ten, reply-zero, stopped, finished, ends, bursts-nonzero, no-factor}
+use Rattle.ring.proofs.Endings.{Ends, told-refused, told-stopped, told-finished, refuses, replies}
+use Rattle.ring.proofs.Multiplying.{due, product, factors-good, work-good, bursts-not, reply, reply-nine, reply-ten, reply-zero, stopped, finished, ends, bursts-nonzero, no-factor}
 use Rattle.ring.proofs.product.product.Reads as call
 
 -- the three parts of an outcome
@@ -68,11 +69,11 @@ module _ (κs : _) (x : _) (r : _) (s : _) (post : call.Post κs x r s) where
   abbrev spent : List ℕ
   spent = now (s .1 .1 .1 .1 .0)
 
-  ended : Ends (λ (y : Outcome). y .report) (rules p a b room work) (reply p a b room work) (outcome (due p a b room work) room work) (stopped p a b room work) (finished p a b room work) (outcome r out spent)
+  ended : Ends (λ (y : Outcome). y .report) (productRules p a b room work) (reply p a b room work) (outcome (due p a b room work) room work) (stopped p a b room work) (finished p a b room work) (outcome r out spent)
   ended = ends p a b room work (outcome r out spent) post
 
   -- Of 1 to 8 the lowest number wins, then the lowest operand, then the lowest term.
-  pub product-refuses : (q : Report) → 0 < q .number → q .number ≤ 8 → (r ≡ q) ↔ FirstDue (rules p a b room work) q
+  pub product-refuses : (q : Report) → 0 < q .number → q .number ≤ 8 → (r ≡ q) ↔ FirstDue (productRules p a b room work) q
   product-refuses = refuses ended
 
   -- 9 exactly when M(a, v) + M(b, v) is over 32,767 for some v.

@@ -3,8 +3,10 @@
 --   sumOf p a b room             the sum of two polynomials, in its normal form
 --   differenceOf p a b room      the difference
 --   productOf p a b room work    the product: 9 where an exponent could be over the largest, before 10
+--   productRules                 the refusals 1 to 8 of a product
 --   burstAt a b                  the first letter v with M(a, v) + M(b, v) over the largest exponent; the number of letters if none
-use Prim.Native.Nat.{ℕ, _+_, _*_, min}
+--   Bursts a b                   some letter v has M(a, v) + M(b, v) over the largest exponent
+use Prim.Native.Nat.{ℕ, _+_, _*_, _<_, min}
 use mathlib.Core.List.{List, [], _∷_, _++_}
 use lib.Dec.{ltb}
 use Rattle.algebra.specs.Residues.{pick, first}
@@ -43,6 +45,14 @@ differenceOf p a b room =
 abbrev pub burstAt : Poly (Letters 4) → Poly (Letters 4) → ℕ
 burstAt f g = first (λ v. ltb (largestExponent 16) (largest (exponent 4 v) f + largest (exponent 4 v) g)) 0 4
 
+pub record Bursts (a b : List ℕ) : Type 0 where
+  pub letter : ℕ
+  pub one-of-four : letter < 4
+  pub over : largestExponent 16 < largest (exponent 4 letter) (polyOf base a) + largest (exponent 4 letter) (polyOf base b)
+
+abbrev pub productRules : ℕ → List ℕ → List ℕ → List ℕ → List ℕ → List Report
+productRules p a b room work = twoInputs p a b room ++ (workRule (4 * min (records a) (records b)) work ∷ [])
+
 -- what a product does where none of 1 to 8 is due
 unfoldable pub multiplied : ℕ → List ℕ → List ℕ → List ℕ → List ℕ → Outcome
 multiplied p a b room work =
@@ -54,5 +64,4 @@ multiplied p a b room work =
 
 unfoldable pub productOf : ℕ → List ℕ → List ℕ → List ℕ → List ℕ → Outcome
 productOf p a b room work =
-    unlessRefused (twoInputs p a b room ++ (workRule (4 * min (records a) (records b)) work ∷ [])) room work
-    (multiplied p a b room work)
+    unlessRefused (productRules p a b room work) room work (multiplied p a b room work)
