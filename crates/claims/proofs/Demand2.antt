@@ -9,10 +9,12 @@
 --   NAME-result             with reply 0, the polynomial in the room is the sum, difference or product
 --   division-results        with reply 0, quotient and remainder of f by g
 --   returned-second, returned-first      a product divided by its second, or its first, factor gives the other back
+--   check-modulus .. check-coefficient, check-done     each reply of the check exactly when its rule says so
 --   NAME-refuses            each of 1 to 8 is told exactly when it is the first due
 --   NAME-full, product-bursts, NAME-done, division-replies, test-replies     each other reply exactly when its rule says so
-use Prim.Native.Nat.{ℕ, _*_, _<_, _≤_}
-use mathlib.Core.Path.{_≡_, sym, ap, subst, transport}
+use Prim.Native.Nat.{ℕ, suc, _*_, _%_, _<_, _≤_}
+use mathlib.Core.Path.{_≡_, sym, _∙_, ap, subst, transport}
+use mathlib.Core.Bool.{true, false}
 use mathlib.Core.List.{List, [], _++_, append-nil}
 use mathlib.Core.Logic.{_⊎_, inl, _↔_}
 use denote.Ref.{now}
@@ -21,13 +23,15 @@ use Rattle.algebra.specs.Orders.{Lex}
 use Rattle.algebra.specs.Polynomials.{Equal, mul, negated, norm, Normal}
 use Rattle.algebra.proofs.NormalForm.{equal-refl, equal-sym, equal-trans, norm-equal, norm-normal}
 use Rattle.algebra.proofs.Ring.{sum-comm, sum-assoc, sum-negated, sum-equal, mul-comm, mul-assoc, mul-one, mul-sum, mul-equal}
-use Rattle.monomial.specs.Layout.{base}
-use Rattle.poly.specs.Words.{records, polyOf, filled}
-use Rattle.poly.specs.Reports.{none, done, firstOr, FirstDue}
-use Rattle.poly.specs.Valid.{Valid}
+use Rattle.field.specs.Moduli.{isModulus}
+use Rattle.monomial.specs.Layout.{base, isMonomial}
+use Rattle.poly.specs.Words.{records, wordAt, polyOf, filled}
+use Rattle.poly.specs.Reports.{none, refusal, done, firstOr, FirstDue}
+use Rattle.poly.specs.Rules.{inputTerms, guardAt, orderAt, badNumberAt}
+use Rattle.poly.specs.Valid.{Valid, FirstOf}
 use Rattle.poly.specs.declared.report.Report.{Report}
-use Rattle.poly.specs.Services.{checkOf}
 use Rattle.poly.proofs.check.check.Reads as check
+use Rattle.poly.proofs.Valid.{check-tells-1, check-tells-2, check-tells-3, check-tells-4, check-tells-5, check-tells-6, check-passed}
 use Rattle.ring.specs.Outcomes.{cleared}
 use Rattle.ring.specs.Calls.{twoInputs, Bursts, productRules}
 use Rattle.ring.proofs.sums.sum.Reads as sum
@@ -160,9 +164,52 @@ returned-second κs x t s post κt y u v post′ same h lent factor room z =
 -- Each reply is given exactly when its rule says so. The rules of 1 to 8 stand in a list, and the first that is due is told, with its
 -- operand and its term.
 
--- What each of 1 to 6 says of the slice: check-tells-1 .. check-tells-6 in poly/proofs/Valid.
-pub check-told : (κs : _) (x : _) (t : _) (s : _) → check.Post κs x t s → t ≡ checkOf (x .0) (now (x .1 .0))
-check-told κs x t s post = post
+-- The check: each refusal where its rule says so and none of a lower number is due, 0 where none is.
+
+told-as : {t c r : Report} {A : Type 0} → t ≡ c → (c ≡ r) ↔ A → (t ≡ r) ↔ A
+told-as e d = (λ k. d .0 (sym e ∙ k), λ a. e ∙ d .1 a)
+
+pub check-modulus : (κs : _) (x : _) (t : _) (s : _) → check.Post κs x t s →
+    let p = x .0 in
+    let f = now (x .1 .0) in
+    (t ≡ refusal 1 0 0) ↔ (isModulus p ≡ false)
+check-modulus κs x t s post = told-as post (check-tells-1 _ _)
+
+pub check-odd : (κs : _) (x : _) (t : _) (s : _) → check.Post κs x t s →
+    let p = x .0 in
+    let f = now (x .1 .0) in
+    (t ≡ refusal 2 1 0) ↔ ((isModulus p ≡ true) × (length f % 2 ≡ 1))
+check-odd κs x t s post = told-as post (check-tells-2 _ _)
+
+pub check-long : (κs : _) (x : _) (t : _) (s : _) → check.Post κs x t s →
+    let p = x .0 in
+    let f = now (x .1 .0) in
+    (t ≡ refusal 3 1 0) ↔ ((isModulus p ≡ true) × (length f ≡ 2 * records f) × (inputTerms < records f))
+check-long κs x t s post = told-as post (check-tells-3 _ _)
+
+pub check-guard : (κs : _) (x : _) (t : _) (s : _) → check.Post κs x t s →
+    let p = x .0 in
+    let f = now (x .1 .0) in
+    (i : ℕ) → (t ≡ refusal 4 1 i) ↔ ((isModulus p ≡ true) × (length f ≡ 2 * records f) × (records f ≤ inputTerms) × FirstOf (guardAt base f) (records f) i)
+check-guard κs x t s post i = told-as post (check-tells-4 _ _ i)
+
+pub check-order : (κs : _) (x : _) (t : _) (s : _) → check.Post κs x t s →
+    let p = x .0 in
+    let f = now (x .1 .0) in
+    (i : ℕ) → (t ≡ refusal 5 1 i) ↔ ((isModulus p ≡ true) × (length f ≡ 2 * records f) × (records f ≤ inputTerms) × ((j : ℕ) → j < records f → isMonomial base (wordAt f j) ≡ true) × FirstOf (orderAt f) (records f) i)
+check-order κs x t s post i = told-as post (check-tells-5 _ _ i)
+
+pub check-coefficient : (κs : _) (x : _) (t : _) (s : _) → check.Post κs x t s →
+    let p = x .0 in
+    let f = now (x .1 .0) in
+    (i : ℕ) → (t ≡ refusal 6 1 i) ↔ ((isModulus p ≡ true) × (length f ≡ 2 * records f) × (records f ≤ inputTerms) × ((j : ℕ) → j < records f → isMonomial base (wordAt f j) ≡ true) × ((j : ℕ) → suc j < records f → wordAt f (suc j) < wordAt f j) × FirstOf (badNumberAt p f) (records f) i)
+check-coefficient κs x t s post i = told-as post (check-tells-6 _ _ i)
+
+pub check-done : (κs : _) (x : _) (t : _) (s : _) → check.Post κs x t s →
+    let p = x .0 in
+    let f = now (x .1 .0) in
+    (isModulus p ≡ true) × Valid p f × (records f ≤ inputTerms) → t ≡ done (records f) 0
+check-done κs x t s post v = post ∙ check-passed _ _ v
 
 pub sum-refuses : (κs : _) (x : _) (t : _) (s : _) → sum.Post κs x t s →
     let p = x .0 in

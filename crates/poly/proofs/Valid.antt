@@ -4,7 +4,6 @@
 --   Input p s          a lent slice that is Valid and within its number of terms
 --   Each P slices      every one of some lent slices has the property P
 --   Accepted p inputs outputs      what the rules 1 to 6 ask of a call together
---   FirstOf t count i  i is the first of `count` terms that the test t finds at fault
 --   unless-passed, passed-unless, unless-tells, unless-told, unless-own      of a rule that tests a slice as a whole
 --   found-passed, passed-found, found-tells, found-told, found-own           of a rule that tests each term
 --   NAME-passed        the report of the rule NAME has the number 0, so what it asks holds
@@ -54,7 +53,7 @@ use Rattle.poly.specs.Rules.{
   refusals,
 }
 use Rattle.poly.specs.Services.{asInput, checkOf}
-use Rattle.poly.specs.Valid.{Valid}
+use Rattle.poly.specs.Valid.{Valid, FirstOf}
 use Rattle.poly.specs.declared.report.Report.{Report}
 use Rattle.poly.proofs.Reports.{Own, Ascending, passed-append, append-passed, fold-append, fold-passed, passed-fold, fold-told}
 
@@ -74,11 +73,6 @@ pub record Accepted (p : ℕ) (inputs outputs : List Lent) : Type 0 where
   pub modulus : isModulus p ≡ true
   pub ins : Each (λ s. Input p s) inputs
   pub outs : Each (λ s. Shaped s) outputs
-
-pub record FirstOf (t : ℕ → Bool) (count i : ℕ) : Type 0 where
-  pub within : i < count
-  pub holds : t i ≡ true
-  pub before : (j : ℕ) → j < i → t j ≡ false
 
 number-of : {a b : Report} → a ≡ b → a .number ≡ b .number
 number-of e = ap (λ (r : Report). r .number) e

@@ -1,9 +1,10 @@
 -- Slices that are polynomials: what the refusals 2, 4, 5 and 6 leave.
 --
---   Valid p s      whole records, monomial words that fall, coefficients 1 to p − 1
+--   Valid p s             whole records, monomial words that fall, coefficients 1 to p − 1
+--   FirstOf t count i     i is the first of `count` terms that the test t finds at fault
 use Prim.Native.Nat.{ℕ, suc, _*_, _<_}
 use mathlib.Core.Path.{_≡_}
-use mathlib.Core.Bool.{true}
+use mathlib.Core.Bool.{Bool, true, false}
 use mathlib.Core.List.{List}
 use lib.ListN.{length}
 use Rattle.monomial.specs.Layout.{base, isMonomial}
@@ -14,3 +15,8 @@ pub record Valid (p : ℕ) (s : List ℕ) : Type 0 where
   pub monomials : (i : ℕ) → i < records s → isMonomial base (wordAt s i) ≡ true
   pub falls : (i : ℕ) → suc i < records s → wordAt s (suc i) < wordAt s i
   pub numbers : (i : ℕ) → i < records s → (0 < numberAt s i) × (numberAt s i < p)
+
+pub record FirstOf (t : ℕ → Bool) (count i : ℕ) : Type 0 where
+  pub within : i < count
+  pub holds : t i ≡ true
+  pub before : (j : ℕ) → j < i → t j ≡ false
