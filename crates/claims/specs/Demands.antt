@@ -2,6 +2,7 @@
 --
 --   Answered               a call may be made with these arguments, and has one outcome
 --   Afterwards n s s′      what the table of replies says of words s that were lent for writing and are s′ after the refusal n
+--   Single n p good        the reply n of a single field operation: 1 first, then 6
 --   Ring p                 the polynomials in four letters over the integers modulo p are a commutative ring: f ++ g is the sum, mul the
 --                          product, negated the negative, [] zero, and equality is that of all coefficients modulo p
 --   front n s              the polynomial of the first n terms of a slice
@@ -12,11 +13,14 @@
 --   terms p h              how many terms the polynomial h has
 use Prim.Native.Nat.{ℕ, _*_, _<_, _≤_}
 use mathlib.Core.Path.{_≡_}
+use mathlib.Core.Bool.{Bool, true, false}
 use mathlib.Core.List.{List, [], _∷_, _++_}
+use mathlib.Core.Logic.{_↔_}
 use lib.ListN.{length, take}
 use Rattle.algebra.specs.Monomials.{Letters}
 use Rattle.algebra.specs.Orders.{Lex}
 use Rattle.algebra.specs.Polynomials.{term, Poly, Equal, mul, negated, norm, NoMultiple, Normal}
+use Rattle.field.specs.Moduli.{isModulus}
 use Rattle.monomial.specs.Layout.{base}
 use Rattle.poly.specs.Words.{termAt, polyOf}
 use Rattle.ring.specs.Outcomes.{cleared}
@@ -31,6 +35,12 @@ pub record Answered {R S O : Type 0} (asked : Type 0) (allowed : R → S → Typ
 pub record Afterwards (n : ℕ) (s s′ : List ℕ) : Type 0 where
   pub unchanged : 0 < n → n ≤ 8 → s′ ≡ s
   pub zero : 8 < n → s′ ≡ cleared s
+
+-- of an operation on numbers modulo p, whose operands are good or not
+pub record Single (n p : ℕ) (good : Bool) : Type 0 where
+  pub one : (n ≡ 1) ↔ (isModulus p ≡ false)
+  pub six : (n ≡ 6) ↔ ((isModulus p ≡ true) × (good ≡ false))
+  pub done : (n ≡ 0) ↔ ((isModulus p ≡ true) × (good ≡ true))
 
 -- Polynomials
 
