@@ -19,18 +19,7 @@ use Rattle.algebra.specs.Monomials.{Monomials}
 use Rattle.algebra.specs.Orders.{Order, Weight, Weighted, Then}
 use Rattle.algebra.specs.Polynomials.{Term, Poly, only, coef, Equal, mul, largest, norm, All, Below, Normal}
 use Rattle.algebra.proofs.Residues.{same-eq, same-sym, same-trans}
-use Rattle.algebra.proofs.NormalForm.{
-  all-map,
-  below-coef,
-  lead-coef,
-  norm-normal,
-  norm-equal,
-  norm-unique,
-  norm-self,
-  equal-refl,
-  equal-sym,
-  equal-trans,
-}
+use Rattle.algebra.proofs.NormalForm.{all-map, below-coef, lead-coef, norm-normal, norm-equal, norm-unique, norm-self, equal-refl, equal-sym, equal-trans}
 use Rattle.algebra.proofs.Ring.{mul-equal}
 use Rattle.algebra.proofs.Leads.{prime-positive, normal-tail, coef-number, lead-mul}
 

@@ -18,20 +18,7 @@ use Rattle.algebra.specs.Walk.{Judges, Walked, unfinished, stopped, toQu
 use Rattle.algebra.proofs.Residues.{same-eq, same-sym, same-trans, same-mod, same-below}
 use Rattle.algebra.proofs.Primes.{mod-cancel}
 use Rattle.algebra.proofs.Totals.{equal-by}
-use Rattle.algebra.proofs.NormalForm.{
-  Small,
-  sorted-falling,
-  sorted-small,
-  lead-coef,
-  norm-normal,
-  norm-equal,
-  norm-unique,
-  norm-self,
-  extract,
-  equal-refl,
-  equal-sym,
-  equal-trans,
-}
+use Rattle.algebra.proofs.NormalForm.{Small, sorted-falling, sorted-small, lead-coef, norm-normal, norm-equal, norm-unique, norm-self, extract, equal-refl, equal-sym, equal-trans}
 use Rattle.algebra.proofs.Ring.{mul-equal, sum-cancel-left}
 use Rattle.algebra.proofs.Leads.{prime-positive, normal-tail, coef-number, keep-positive, lead-mul, multiple-zero}
 use Rattle.algebra.proofs.Walk.{quotient-number, step-equation}

@@ -20,15 +20,7 @@ use Rattle.algebra.specs.Polynomials.{Term, term, Poly, coef, Equal, NoM
 use Rattle.algebra.proofs.Residues.{same-eq, same-refl, same-sym, same-trans, same-add, same-below, same-minus}
 use Rattle.algebra.proofs.Primes.{euclid}
 use Rattle.algebra.proofs.NormalForm.{below-trans, all-append, norm-normal, norm-equal, equal-refl, equal-sym, equal-trans, extract, lead-coef}
-use Rattle.algebra.proofs.Ring.{
-  sum-equal,
-  sum-mul,
-  sum-cancel-left,
-  difference-zero,
-  mul-equal,
-  mul-negated,
-  coef-negated,
-}
+use Rattle.algebra.proofs.Ring.{sum-equal, sum-mul, sum-cancel-left, difference-zero, mul-equal, mul-negated, coef-negated}
 use Rattle.algebra.proofs.Totals.{coef-append}
 
 pub prime-positive : {p : ℕ} → Prime p → 0 < p

@@ -23,17 +23,7 @@ use Rattle.algebra.specs.Residues.{Same}
 use Rattle.algebra.specs.Monomials.{Monomials}
 use Rattle.algebra.specs.Orders.{Order, Tri, below, level, above}
 use Rattle.algebra.specs.Polynomials.{Term, term, Poly, only, coef, Equal, keep, nonzero, placed, insert, sorted, norm, All, Below, Falling, Reduced, Normal}
-use Rattle.algebra.proofs.Residues.{
-  same-eq,
-  same-refl,
-  same-sym,
-  same-trans,
-  same-mod,
-  same-add,
-  same-mul,
-  same-cancel,
-  same-below,
-}
+use Rattle.algebra.proofs.Residues.{same-eq, same-refl, same-sym, same-trans, same-mod, same-add, same-mul, same-cancel, same-below}
 use Rattle.algebra.proofs.Totals.{total, equal-by}
 
 abbrev pub Small : {K : Monomials} → ℕ → Poly K → Type 0

@@ -17,21 +17,7 @@ use Rattle.algebra.specs.Orders.{Order, Tri, below, level, above}
 use Rattle.algebra.specs.Polynomials.{Term, term, Poly, only, coef, count, Equal, negated, placed, insert, sorted, All, Below, Falling}
 use Rattle.algebra.proofs.Residues.{same-eq, same-trans, same-below}
 use Rattle.algebra.proofs.Totals.{equal-by}
-use Rattle.algebra.proofs.NormalForm.{
-  Small,
-  equal-refl,
-  equal-sym,
-  equal-trans,
-  below-trans,
-  apart,
-  only-here,
-  lead-coef,
-  same-tails,
-  sorted-falling,
-  sorted-small,
-  sorted-all,
-  sorted-total,
-}
+use Rattle.algebra.proofs.NormalForm.{Small, equal-refl, equal-sym, equal-trans, below-trans, apart, only-here, lead-coef, same-tails, sorted-falling, sorted-small, sorted-all, sorted-total}
 use Rattle.algebra.proofs.Ring.{sum-equal, negated-equal}
 
 -- the sums of positive numbers
@@ -193,3 +179,6 @@ module _ {K : Monomials} (O : Order K) {p : ℕ} (pos : 0 < p) where
       (sorted-all O p pos (λ n. O .less n m) g b, sorted-falling O p pos g)
       (sorted-small O p pos f) (h, sorted-small O p pos g)
       (alike-trans (sorted-alike f) (alike-trans a (alike-append O pos {f = term m c ∷ []} alike-refl (alike-sym (sorted-alike g)))))
+
+pub negated-all : {K : Monomials} (P : K .Mon → Type 0) (p : ℕ) (f : Poly K) → All P f → All P (negated p f)
+negated-all P p f a = count-all P (negated p f) (λ m h. all-count P f a m (subst (λ n. 0 < n) (count-negated p m f) h))

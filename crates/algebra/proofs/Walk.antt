@@ -15,33 +15,10 @@ use Rattle.algebra.specs.Monomials.{Monomials}
 use Rattle.algebra.specs.Orders.{Order, Tri, below, level, above}
 use Rattle.algebra.specs.Polynomials.{Term, Poly, only, Equal, NoMultiple, times, mul, negated, All, Below, Falling, Normal}
 use Rattle.algebra.specs.Walk.{Judges, Walked, unfinished, stopped, toQuotient, toRemainder, quotientTerm, remains, walk}
-use Rattle.algebra.proofs.Residues.{
-  same-eq,
-  same-refl,
-  same-sym,
-  same-trans,
-  same-mod,
-  same-add,
-  same-mul,
-  same-mul-left,
-  same-below,
-  same-minus,
-}
+use Rattle.algebra.proofs.Residues.{same-eq, same-refl, same-sym, same-trans, same-mod, same-add, same-mul, same-mul-left, same-below, same-minus}
 use Rattle.algebra.proofs.Primes.{inverse-law}
 use Rattle.algebra.proofs.Totals.{total, total-append, equal-by}
-use Rattle.algebra.proofs.NormalForm.{
-  Small,
-  all-append,
-  below-trans,
-  sorted-falling,
-  sorted-small,
-  sorted-all,
-  sorted-total,
-  equal-refl,
-  equal-sym,
-  equal-trans,
-  equal-total,
-}
+use Rattle.algebra.proofs.NormalForm.{Small, all-append, below-trans, sorted-falling, sorted-small, sorted-all, sorted-total, equal-refl, equal-sym, equal-trans, equal-total}
 use Rattle.algebra.proofs.Ring.{sum-equal, sum-assoc, total-negated}
 use Rattle.algebra.proofs.Leads.{prime-positive, coef-number, times-below}
 use Rattle.algebra.proofs.Steps.{Steps, walk-keeps}

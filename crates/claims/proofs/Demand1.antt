@@ -30,30 +30,30 @@ use Rattle.monomial.proofs.pack.Reads as pack
 use Rattle.monomial.proofs.unpack.Reads as unpack
 use Rattle.monomial.proofs.Determined as monomials
 use Rattle.poly.specs.Words.{records}
-use Rattle.poly.specs.Rules.{inputTerms}
+use Rattle.refusals.specs.Rules.{inputTerms}
 use Rattle.poly.specs.Valid.{Valid}
-use Rattle.poly.specs.Services.{checkOf}
-use Rattle.poly.specs.declared.report.Report.{Report}
-use Rattle.poly.proofs.check.check.Reads as check
-use Rattle.poly.proofs.profile.profile_of.Reads as profile-of
-use Rattle.poly.proofs.run.run.Reads as run
-use Rattle.poly.proofs.Determined as polys
-use Rattle.poly.proofs.Valid.{check-valid}
-use Rattle.ring.specs.Outcomes.{outcome}
-use Rattle.ring.proofs.sums.sum.Reads as sum
-use Rattle.ring.proofs.sums.difference.Reads as difference
-use Rattle.ring.proofs.product.product.Reads as product
-use Rattle.ring.proofs.Determined as rings
-use Rattle.ring.proofs.ProductDetermined as products
-use Rattle.ring.proofs.SumClaims.{sum-over, sum-accepts, sum-unchanged, sum-cleared}
-use Rattle.ring.proofs.DifferenceClaims.{difference-over, difference-accepts, difference-unchanged, difference-cleared}
-use Rattle.ring.proofs.ProductClaims.{product-accepts, product-unchanged, product-cleared}
-use Rattle.division.specs.Calls.{divided}
+use Rattle.services.specs.Services.{checkOf}
+use Rattle.refusals.specs.declared.report.Report.{Report}
+use Rattle.services.proofs.check.check.Reads as check
+use Rattle.services.proofs.profile.profile_of.Reads as profile-of
+use Rattle.services.proofs.run.run.Reads as run
+use Rattle.services.proofs.Determined as polys
+use Rattle.claims.proofs.Check.{check-valid}
+use Rattle.calls.specs.Outcomes.{outcome}
+use Rattle.sums.proofs.sum.Reads as sum
+use Rattle.sums.proofs.difference.Reads as difference
+use Rattle.product.proofs.product.Reads as product
+use Rattle.sums.proofs.Determined as rings
+use Rattle.product.proofs.Determined as products
+use Rattle.claims.proofs.SumClaims.{sum-over, sum-accepts, sum-unchanged, sum-cleared}
+use Rattle.claims.proofs.DifferenceClaims.{difference-over, difference-accepts, difference-unchanged, difference-cleared}
+use Rattle.claims.proofs.ProductClaims.{product-accepts, product-unchanged, product-cleared}
+use Rattle.division.specs.Division.{divided}
 use Rattle.division.proofs.division.divide.Reads as divide
 use Rattle.division.proofs.test.divides.Reads as divides
 use Rattle.division.proofs.Determined as divisions
-use Rattle.division.proofs.DivisionClaims.{divide-accepts, divide-unchanged, divide-cleared}
-use Rattle.division.proofs.TestClaims.{divides-accepts, divides-unchanged, divides-cleared}
+use Rattle.claims.proofs.DivisionClaims.{divide-accepts, divide-unchanged, divide-cleared}
+use Rattle.claims.proofs.TestClaims.{divides-accepts, divides-unchanged, divides-cleared}
 use Rattle.claims.specs.Demands.{Answered, Afterwards}
 
 -- Every call on any arrays ends with one numbered answer (the search for a run: with a part).

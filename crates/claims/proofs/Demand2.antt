@@ -25,28 +25,29 @@ use Rattle.algebra.proofs.NormalForm.{equal-refl, equal-sym, equal-trans, norm-
 use Rattle.algebra.proofs.Ring.{sum-comm, sum-assoc, sum-negated, sum-equal, mul-comm, mul-assoc, mul-one, mul-sum, mul-equal}
 use Rattle.field.specs.Moduli.{isModulus}
 use Rattle.monomial.specs.Layout.{base, isMonomial}
-use Rattle.poly.specs.Words.{records, wordAt, polyOf, filled}
-use Rattle.poly.specs.Reports.{none, refusal, done, firstOr, FirstDue}
-use Rattle.poly.specs.Rules.{inputTerms, guardAt, orderAt, badNumberAt}
+use Rattle.poly.specs.Words.{records, wordAt, polyOf, filled, cleared}
+use Rattle.refusals.specs.Reports.{none, refusal, done, firstOr, FirstDue}
+use Rattle.refusals.specs.Rules.{inputTerms, guardAt, orderAt, badNumberAt}
 use Rattle.poly.specs.Valid.{Valid, FirstOf}
-use Rattle.poly.specs.declared.report.Report.{Report}
-use Rattle.poly.proofs.check.check.Reads as check
-use Rattle.poly.proofs.Valid.{check-tells-1, check-tells-2, check-tells-3, check-tells-4, check-tells-5, check-tells-6, check-passed}
-use Rattle.ring.specs.Outcomes.{cleared}
-use Rattle.ring.specs.Calls.{twoInputs, Bursts, productRules}
-use Rattle.ring.proofs.sums.sum.Reads as sum
-use Rattle.ring.proofs.sums.difference.Reads as difference
-use Rattle.ring.proofs.product.product.Reads as product
-use Rattle.ring.proofs.Endings.{fold-first-due}
-use Rattle.ring.proofs.SumClaims as sums
-use Rattle.ring.proofs.DifferenceClaims as differences
-use Rattle.ring.proofs.ProductClaims as products
-use Rattle.division.specs.Calls.{divideRules, testRules, divisionJudges, testJudges, walkBy}
-use Rattle.division.specs.Stops.{Left, DivisionDue, TestDue}
+use Rattle.refusals.specs.declared.report.Report.{Report}
+use Rattle.services.proofs.check.check.Reads as check
+use Rattle.claims.proofs.Check.{check-tells-1, check-tells-2, check-tells-3, check-tells-4, check-tells-5, check-tells-6, check-passed}
+use Rattle.calls.specs.Inputs.{twoInputs}
+use Rattle.product.specs.Products.{Bursts, productRules}
+use Rattle.sums.proofs.sum.Reads as sum
+use Rattle.sums.proofs.difference.Reads as difference
+use Rattle.product.proofs.product.Reads as product
+use Rattle.calls.proofs.Endings.{fold-first-due}
+use Rattle.claims.proofs.SumClaims as sums
+use Rattle.claims.proofs.DifferenceClaims as differences
+use Rattle.claims.proofs.ProductClaims as products
+use Rattle.division.specs.Division.{divideRules, testRules}
+use Rattle.judges.specs.Judges.{divisionJudges, testJudges, walkBy}
+use Rattle.judges.specs.Stops.{Left, DivisionDue, TestDue}
 use Rattle.division.proofs.division.divide.Reads as divide
 use Rattle.division.proofs.test.divides.Reads as divides
-use Rattle.division.proofs.DivisionClaims as divisions
-use Rattle.division.proofs.TestClaims as tests
+use Rattle.claims.proofs.DivisionClaims as divisions
+use Rattle.claims.proofs.TestClaims as tests
 use Rattle.claims.specs.Demands.{P, Ring, front, Result, lead, Pair, terms}
 
 -- The polynomial ring in four letters over the integers modulo p.

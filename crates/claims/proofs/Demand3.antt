@@ -24,12 +24,12 @@ use Rattle.algebra.specs.Orders.{Lex}
 use Rattle.algebra.specs.Polynomials.{Equal, norm}
 use Rattle.monomial.specs.Layout.{base}
 use Rattle.poly.specs.Words.{records, polyOf}
-use Rattle.poly.specs.Reports.{none, firstOr}
-use Rattle.division.specs.Calls.{divideRules, testRules}
+use Rattle.refusals.specs.Reports.{none, firstOr}
+use Rattle.division.specs.Division.{divideRules, testRules}
 use Rattle.division.proofs.division.divide.Reads as divide
 use Rattle.division.proofs.test.divides.Reads as divides
-use Rattle.division.proofs.DivisionClaims.{divide-equation, divide-only, divide-exact}
-use Rattle.division.proofs.TestClaims.{divides-replies, divides-answers, divides-yes, divides-no, divides-full}
+use Rattle.claims.proofs.DivisionClaims.{divide-equation, divide-only, divide-exact}
+use Rattle.claims.proofs.TestClaims.{divides-replies, divides-answers, divides-yes, divides-no, divides-full}
 use Rattle.claims.specs.Demands.{P, front, lead, Pair, Factor, terms}
 
 -- A division by a nonzero g that ends with reply 0 gives a pair with f = q·g + r and no term of r divisible by g's lead monomial.

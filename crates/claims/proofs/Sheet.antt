@@ -17,11 +17,12 @@ use Rattle.field.specs.Answers.{balancedOf, balancedValue}
 use Rattle.field.specs.declared.Balance.{Balance}
 use Rattle.monomial.specs.Layout.{isMonomial}
 use Rattle.poly.specs.Words.{polyOf}
-use Rattle.poly.specs.Rules.{guardAt, orderAt, badNumberAt, modulusRule, oddRule, longRule, guardRule, orderRule, numberRule, divisorRule, workRule}
-use Rattle.poly.specs.declared.report.Report.{Report}
-use Rattle.ring.specs.Outcomes.{Outcome}
-use Rattle.ring.specs.Calls.{multiplied, productOf}
-use Rattle.division.specs.Calls.{Divided, steps, divideOf, dividesOf}
+use Rattle.refusals.specs.Rules.{guardAt, orderAt, badNumberAt, modulusRule, oddRule, longRule, guardRule, orderRule, numberRule, divisorRule, workRule}
+use Rattle.refusals.specs.declared.report.Report.{Report}
+use Rattle.calls.specs.Outcomes.{Outcome}
+use Rattle.product.specs.Products.{multiplied, productOf}
+use Rattle.division.specs.Division.{Divided, divideOf, dividesOf}
+use Rattle.judges.specs.Judges.{steps}
 use Rattle.claims.specs.Sheet.{Row, product, division, divideTest, balanced, Holds, AllHold, sameWords, sameReport, sameOutcome, sameDivided, sameNumber, sameBalance, right, allRight, rows}
 
 pub sheet : allRight rows ≡ true

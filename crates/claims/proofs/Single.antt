@@ -27,9 +27,9 @@ use Rattle.monomial.specs.Layout.{base, fits, isMonomial}
 use Rattle.monomial.specs.declared.Exponents.{Exponents}
 use Rattle.monomial.proofs.pack.Reads as pack
 use Rattle.monomial.proofs.unpack.Reads as unpack
-use Rattle.poly.specs.Services.{checkOf, profileOf}
-use Rattle.poly.specs.declared.profile.Profiled.{Profiled}
-use Rattle.poly.proofs.profile.profile_of.Reads as profile-of
+use Rattle.services.specs.Services.{checkOf, profileOf}
+use Rattle.services.specs.declared.profile.Profiled.{Profiled}
+use Rattle.services.proofs.profile.profile_of.Reads as profile-of
 use Rattle.claims.specs.Demands.{Single}
 
 -- The refusal that is due

@@ -22,8 +22,7 @@ use Rattle.algebra.specs.Orders.{Lex}
 use Rattle.algebra.specs.Polynomials.{term, Poly, Equal, mul, negated, norm, NoMultiple, Normal}
 use Rattle.field.specs.Moduli.{isModulus}
 use Rattle.monomial.specs.Layout.{base}
-use Rattle.poly.specs.Words.{termAt, polyOf}
-use Rattle.ring.specs.Outcomes.{cleared}
+use Rattle.poly.specs.Words.{termAt, polyOf, cleared}
 
 -- Answers
 

@@ -24,10 +24,10 @@ use Rattle.field.specs.declared.Balance.{Balance}
 use Rattle.field.specs.Answers.{balancedOf}
 use Rattle.monomial.specs.Layout.{base}
 use Rattle.poly.specs.Words.{wordsOf}
-use Rattle.poly.specs.declared.report.Report.{Report}
-use Rattle.ring.specs.Outcomes.{Outcome, outcome}
-use Rattle.ring.specs.Calls.{productOf}
-use Rattle.division.specs.Calls.{Divided, divided, divideOf, dividesOf}
+use Rattle.refusals.specs.declared.report.Report.{Report}
+use Rattle.calls.specs.Outcomes.{Outcome, outcome}
+use Rattle.product.specs.Products.{productOf}
+use Rattle.division.specs.Division.{Divided, divided, divideOf, dividesOf}
 
 infix 70 _x^_
 infix 70 _x^_y^_

@@ -15,16 +15,17 @@ use Rattle.field.specs.Moduli.{limit}
 use Rattle.field.proofs.Moduli.{modulus-prime, modulus-within}
 use Rattle.monomial.specs.Layout.{base}
 use Rattle.poly.specs.Words.{records, polyOf}
-use Rattle.poly.specs.Reports.{none, firstOr}
-use Rattle.poly.specs.Rules.{Lent, inputTerms, roomTerms, refusals}
+use Rattle.refusals.specs.Reports.{none, firstOr}
+use Rattle.refusals.specs.Rules.{Lent, inputTerms, roomTerms, refusals}
 use Rattle.poly.specs.Valid.{Valid}
-use Rattle.poly.specs.declared.report.Report.{Report}
-use Rattle.poly.proofs.Reports.{passed-append, fold-passed}
-use Rattle.poly.proofs.Valid.{Shaped, Each, refusals-accepted, divisor-passed, work-passed}
-use Rattle.ring.specs.Outcomes.{Outcome, outcome}
-use Rattle.ring.specs.Calls.{inputs}
-use Rattle.ring.proofs.Refusals.{refused-tells, passed-goes-on}
-use Rattle.division.specs.Calls.{divisionJudges, testJudges, walkBy, lastRules, quotientRoom, remainderRoom, Divided, divided, divideRules, afterDivision, divideOf, testRules, afterTest, dividesOf}
+use Rattle.refusals.specs.declared.report.Report.{Report}
+use Rattle.refusals.proofs.Reports.{passed-append, fold-passed}
+use Rattle.refusals.proofs.Accepted.{Shaped, Each, refusals-accepted, divisor-passed, work-passed}
+use Rattle.calls.specs.Outcomes.{Outcome, outcome}
+use Rattle.calls.specs.Inputs.{inputs}
+use Rattle.calls.proofs.Refusals.{refused-tells, passed-goes-on}
+use Rattle.judges.specs.Judges.{divisionJudges, testJudges, walkBy}
+use Rattle.division.specs.Division.{lastRules, quotientRoom, remainderRoom, Divided, divided, divideRules, afterDivision, divideOf, testRules, afterTest, dividesOf}
 
 pub record Good (p : ℕ) (f g q work : List ℕ) : Type 0 where
   pub prime : Prime p

@@ -2,29 +2,15 @@
 -- the source, so that a theorem here fails when a contract says less.
 --
 --   NAME-asks-nothing    every argument is allowed
---   NAME-determined      two outcomes that the contract allows for the same arguments are equal: report, rooms and work
+--   NAME-determined      two outcomes that the contract allows for the same arguments are equal
 use mathlib.Core.Path.{_≡_, sym, _∙_}
-use Rattle.ring.specs.Outcomes.{outcome}
-use Rattle.division.specs.Calls.{divided}
-use Rattle.division.proofs.heads.root.Reads as root
-use Rattle.division.proofs.plan.judge_remainder.Reads as judge-remainder
+use Rattle.calls.specs.Outcomes.{outcome}
+use Rattle.division.specs.Division.{divided}
 use Rattle.division.proofs.rules.divide_rules.Reads as divide-rules
+use denote.Ref.{now}
 use Rattle.division.proofs.rules.test_rules.Reads as test-rules
 use Rattle.division.proofs.division.divide.Reads as divide
 use Rattle.division.proofs.test.divides.Reads as divides
-use denote.Ref.{now}
-
-pub root-asks-nothing : (κs : _) (a : _) → root.Pre κs a
-root-asks-nothing κs a = tt
-
-pub root-determined : (κs : _) (a : _) (r r′ : _) (s s′ : _) → root.Post κs a r s → root.Post κs a r′ s′ → r ≡ r′
-root-determined κs a r r′ s s′ p q = p ∙ sym q
-
-pub judge-remainder-asks-nothing : (κs : _) (a : _) → judge-remainder.Pre κs a
-judge-remainder-asks-nothing κs a = tt
-
-pub judge-remainder-determined : (κs : _) (a : _) (r r′ : _) (s s′ : _) → judge-remainder.Post κs a r s → judge-remainder.Post κs a r′ s′ → r ≡ r′
-judge-remainder-determined κs a r r′ s s′ p q = p ∙ sym q
 
 pub divide-rules-asks-nothing : (κs : _) (a : _) → divide-rules.Pre κs a
 divide-rules-asks-nothing κs a = tt

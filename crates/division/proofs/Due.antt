@@ -12,13 +12,13 @@ use lib.ListN.{length}
 use Rattle.algebra.specs.Residues.{pick}
 use Rattle.monomial.specs.Layout.{base}
 use Rattle.poly.specs.Words.{records}
-use Rattle.poly.specs.Reports.{none, firstOr}
-use Rattle.poly.specs.Rules.{Lent, modulusRule, oddRule, longRule, guardRule, orderRule, numberRule, divisorRule, workRule, shapeRules, orderRules, numberRules, refusals}
-use Rattle.poly.specs.declared.report.Report.{Report}
-use Rattle.poly.proofs.Reports.{Own}
-use Rattle.poly.proofs.Valid.{unless-own, modulus-own, odd-own, long-own, guard-own, order-own, number-own}
-use Rattle.ring.specs.Calls.{inputs}
-use Rattle.division.specs.Calls.{lastRules}
+use Rattle.refusals.specs.Reports.{none, firstOr}
+use Rattle.refusals.specs.Rules.{Lent, modulusRule, oddRule, longRule, guardRule, orderRule, numberRule, divisorRule, workRule, shapeRules, orderRules, numberRules, refusals}
+use Rattle.refusals.specs.declared.report.Report.{Report}
+use Rattle.refusals.proofs.Reports.{Own}
+use Rattle.refusals.proofs.Accepted.{unless-own, modulus-own, odd-own, long-own, guard-own, order-own, number-own}
+use Rattle.calls.specs.Inputs.{inputs}
+use Rattle.division.specs.Division.{lastRules}
 
 -- no number over 8
 abbrev Within : List Report → Type 0

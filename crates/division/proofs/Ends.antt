@@ -21,19 +21,21 @@ use Rattle.algebra.specs.Polynomials.{Poly}
 use Rattle.algebra.specs.Walk.{Walked, stopped}
 use Rattle.algebra.proofs.Clauses.{joined}
 use Rattle.monomial.specs.Layout.{base}
-use Rattle.poly.specs.Words.{records, span, polyOf, wordsOf, filled}
-use Rattle.poly.specs.Rules.{inputTerms}
-use Rattle.poly.specs.Reports.{done, refusal}
-use Rattle.poly.specs.declared.report.Report.{Report}
+use Rattle.poly.specs.Words.{records, span, polyOf, wordsOf, filled, cleared}
+use Rattle.refusals.specs.Rules.{inputTerms}
+use Rattle.refusals.specs.Reports.{done, refusal}
+use Rattle.refusals.specs.declared.report.Report.{Report}
 use Rattle.poly.proofs.Readings.{flat, decodedPoly, flat-coded, flat-span, length-flat, length-span, length-coded, coded-decoded}
-use Rattle.ring.specs.Outcomes.{Outcome, outcome, cleared}
-use Rattle.ring.proofs.Products.{all-cleared}
-use Rattle.division.specs.Calls.{divisionJudges, testJudges, walkBy, Divided, divided, afterDivision, afterTest}
-use Rattle.division.specs.Walking.{judgesBy, Ready, whole, Fresh, Ran}
-use Rattle.division.specs.declared.plan.Plan.{Plan}
-use Rattle.division.specs.declared.steps.State.{State}
-use Rattle.division.proofs.Seen.{Monomial}
-use Rattle.division.proofs.Runs.{zero-words}
+use Rattle.calls.specs.Outcomes.{Outcome, outcome}
+use Rattle.poly.proofs.Rooms.{all-cleared}
+use Rattle.judges.specs.Judges.{divisionJudges, testJudges, walkBy}
+use Rattle.division.specs.Division.{Divided, divided, afterDivision, afterTest}
+use Rattle.judges.specs.Plans.{judgesBy, Ready}
+use Rattle.walk.specs.Walking.{whole, Fresh, Ran}
+use Rattle.judges.specs.declared.Plan.{Plan}
+use Rattle.walk.specs.declared.steps.State.{State}
+use Rattle.poly.proofs.Transport.{Monomial}
+use Rattle.walk.proofs.Runs.{zero-words}
 
 pub call-starts : (p : ℕ) (plan : Plan) → 0 < p → (q r w q′ : List ℕ) → q′ ≡ cleared q → plan .quotients ≡ records q′ → plan .remainders ≡ records r → records q ≤ inputTerms → 4 * records q ≤ length w → Fresh p plan q′ r w
 call-starts p plan pos q r w q′ eq room other few long =

@@ -1,4 +1,2 @@
--- Division with remainder, and the divide test. Read in this order.
-pub mod Calls
-pub mod Stops
-pub mod Walking
+-- Division with remainder, and the divide test.
+pub mod Division

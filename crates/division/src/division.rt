@@ -6,16 +6,17 @@ ghost use Rattle.algebra.specs.Residues.{Prime};
 ghost use Rattle.field.specs.Moduli.{limit};
 ghost use Rattle.monomial.specs.Layout.{base};
 ghost use Rattle.poly.specs.Words.{records, polyOf};
-ghost use Rattle.poly.specs.Rules.{inputTerms, roomTerms};
+ghost use Rattle.refusals.specs.Rules.{inputTerms, roomTerms};
 ghost use Rattle.poly.specs.Valid.{Valid};
-ghost use Rattle.division.specs.Calls.{divisionJudges, walkBy, divided, afterDivision, divideOf};
-use crate::plan::prepare;
+ghost use Rattle.judges.specs.Judges.{divisionJudges, walkBy};
+ghost use Rattle.division.specs.Division.{divided, afterDivision, divideOf};
 use crate::rules::divide_rules;
-use crate::walk::run;
-use poly::report::Report;
-use poly::report::done;
-use poly::report::refusal;
-use ring::room::clear;
+use judges::prepare;
+use poly::room::clear;
+use refusals::report::Report;
+use refusals::report::done;
+use refusals::report::refusal;
+use walk::run;
 
 // The quotient and the remainder of f by g in the rooms q and r, with four work words for each term of the quotient room.
 pub fn divide(

@@ -1,8 +1,4 @@
-// Division with remainder, and the divide test, on the tree of rows.
+// Division with remainder, and the divide test.
 pub mod division;
-pub mod heads;
-pub mod plan;
 pub mod rules;
-pub mod steps;
 pub mod test;
-pub mod walk;

@@ -1,19 +1,19 @@
 // The refusals 1 to 8, folded in the order in which they win.
 ghost use mathlib.Core.Path.{_≡_};
 ghost use Prim.Native.Nat.{_*_};
-ghost use Rattle.poly.specs.Reports.{none, firstOr};
-ghost use Rattle.division.specs.Calls.{lastRules, divideRules, testRules};
-use poly::report::Report;
-use poly::report::done;
-use poly::report::or_else;
-use poly::rules::INPUT_TERMS;
-use poly::rules::ROOM_TERMS;
-use poly::rules::divisor_rule;
-use poly::rules::long_rule;
-use poly::rules::modulus_rule;
-use poly::rules::odd_rule;
-use poly::rules::work_rule;
-use ring::inputs::term_rules;
+ghost use Rattle.refusals.specs.Reports.{none, firstOr};
+ghost use Rattle.division.specs.Division.{lastRules, divideRules, testRules};
+use calls::inputs::term_rules;
+use refusals::report::Report;
+use refusals::report::done;
+use refusals::report::or_else;
+use refusals::rules::INPUT_TERMS;
+use refusals::rules::ROOM_TERMS;
+use refusals::rules::divisor_rule;
+use refusals::rules::long_rule;
+use refusals::rules::modulus_rule;
+use refusals::rules::odd_rule;
+use refusals::rules::work_rule;
 
 // The first refusal due of a division.
 pub fn divide_rules(p: u64, f: &[u64], g: &[u64], q: &[u64], r: &[u64], work: &[u64]) -> Report

@@ -6,17 +6,18 @@ ghost use Rattle.algebra.specs.Residues.{Prime};
 ghost use Rattle.field.specs.Moduli.{limit};
 ghost use Rattle.monomial.specs.Layout.{base};
 ghost use Rattle.poly.specs.Words.{records, polyOf};
-ghost use Rattle.poly.specs.Rules.{inputTerms};
+ghost use Rattle.refusals.specs.Rules.{inputTerms};
 ghost use Rattle.poly.specs.Valid.{Valid};
-ghost use Rattle.ring.specs.Outcomes.{outcome};
-ghost use Rattle.division.specs.Calls.{testJudges, walkBy, afterTest, dividesOf};
-use crate::plan::prepare;
+ghost use Rattle.calls.specs.Outcomes.{outcome};
+ghost use Rattle.judges.specs.Judges.{testJudges, walkBy};
+ghost use Rattle.division.specs.Division.{afterTest, dividesOf};
 use crate::rules::test_rules;
-use crate::walk::run;
-use poly::report::Report;
-use poly::report::done;
-use poly::report::refusal;
-use ring::room::clear;
+use judges::prepare;
+use poly::room::clear;
+use refusals::report::Report;
+use refusals::report::done;
+use refusals::report::refusal;
+use walk::run;
 
 // Whether g divides f, with the quotient in the room q: 0 for yes and 12 for no.
 pub fn divides(p: u64, f: &[u64], g: &[u64], q: &mut [u64], work: &mut [u64]) -> Report

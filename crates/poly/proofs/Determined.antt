@@ -1,105 +1,12 @@
--- Every public function takes anything and has one answer: the contract is the one that the check generates from the source, so
--- that a theorem here fails when a contract says less.
+-- Every public function that asks nothing takes anything and has one outcome: the contract is the one that the check generates from
+-- the source, so that a theorem here fails when a contract says less.
 --
 --   NAME-asks-nothing    every argument is allowed
---   NAME-determined      two results that the contract allows for the same arguments are equal; of `run`, whose result is a part of
---                        the slice lent, the words are equal and so is the place where they lie
+--   NAME-determined      two outcomes that the contract allows for the same arguments are equal
 use mathlib.Core.Path.{_≡_, sym, _∙_}
-use denote.Ref.{ptr}
-use Rattle.poly.proofs.report.refusal.Reads as refusal
-use Rattle.poly.proofs.report.done.Reads as done
-use Rattle.poly.proofs.report.or_else.Reads as or-else
-use Rattle.poly.proofs.rules.unless.Reads as unless
-use Rattle.poly.proofs.rules.at_term.Reads as at-term
-use Rattle.poly.proofs.rules.modulus_rule.Reads as modulus-rule
-use Rattle.poly.proofs.rules.odd_rule.Reads as odd-rule
-use Rattle.poly.proofs.rules.long_rule.Reads as long-rule
-use Rattle.poly.proofs.rules.divisor_rule.Reads as divisor-rule
-use Rattle.poly.proofs.rules.work_rule.Reads as work-rule
-use Rattle.poly.proofs.rules.find_faults.Reads as find-faults
-use Rattle.poly.proofs.check.check.Reads as check
-use Rattle.poly.proofs.profile.profile_of.Reads as profile-of
+use denote.Ref.{now}
 use Rattle.poly.proofs.profile.measure.Reads as measure
-use Rattle.poly.proofs.run.run.Reads as run
-use Rattle.poly.proofs.run.run_part.Reads as run-part
-
-pub refusal-asks-nothing : (κs : _) (a : _) → refusal.Pre κs a
-refusal-asks-nothing κs a = tt
-
-pub refusal-determined : (κs : _) (a : _) (r r′ : _) (s s′ : _) → refusal.Post κs a r s → refusal.Post κs a r′ s′ → r ≡ r′
-refusal-determined κs a r r′ s s′ p q = p ∙ sym q
-
-pub done-asks-nothing : (κs : _) (a : _) → done.Pre κs a
-done-asks-nothing κs a = tt
-
-pub done-determined : (κs : _) (a : _) (r r′ : _) (s s′ : _) → done.Post κs a r s → done.Post κs a r′ s′ → r ≡ r′
-done-determined κs a r r′ s s′ p q = p ∙ sym q
-
-pub or-else-asks-nothing : (κs : _) (a : _) → or-else.Pre κs a
-or-else-asks-nothing κs a = tt
-
-pub or-else-determined : (κs : _) (a : _) (r r′ : _) (s s′ : _) → or-else.Post κs a r s → or-else.Post κs a r′ s′ → r ≡ r′
-or-else-determined κs a r r′ s s′ p q = p ∙ sym q
-
-pub unless-asks-nothing : (κs : _) (a : _) → unless.Pre κs a
-unless-asks-nothing κs a = tt
-
-pub unless-determined : (κs : _) (a : _) (r r′ : _) (s s′ : _) → unless.Post κs a r s → unless.Post κs a r′ s′ → r ≡ r′
-unless-determined κs a r r′ s s′ p q = p ∙ sym q
-
-pub at-term-asks-nothing : (κs : _) (a : _) → at-term.Pre κs a
-at-term-asks-nothing κs a = tt
-
-pub at-term-determined : (κs : _) (a : _) (r r′ : _) (s s′ : _) → at-term.Post κs a r s → at-term.Post κs a r′ s′ → r ≡ r′
-at-term-determined κs a r r′ s s′ p q = p ∙ sym q
-
-pub modulus-rule-asks-nothing : (κs : _) (a : _) → modulus-rule.Pre κs a
-modulus-rule-asks-nothing κs a = tt
-
-pub modulus-rule-determined : (κs : _) (a : _) (r r′ : _) (s s′ : _) → modulus-rule.Post κs a r s → modulus-rule.Post κs a r′ s′ → r ≡ r′
-modulus-rule-determined κs a r r′ s s′ p q = p ∙ sym q
-
-pub odd-rule-asks-nothing : (κs : _) (a : _) → odd-rule.Pre κs a
-odd-rule-asks-nothing κs a = tt
-
-pub odd-rule-determined : (κs : _) (a : _) (r r′ : _) (s s′ : _) → odd-rule.Post κs a r s → odd-rule.Post κs a r′ s′ → r ≡ r′
-odd-rule-determined κs a r r′ s s′ p q = p ∙ sym q
-
-pub long-rule-asks-nothing : (κs : _) (a : _) → long-rule.Pre κs a
-long-rule-asks-nothing κs a = tt
-
-pub long-rule-determined : (κs : _) (a : _) (r r′ : _) (s s′ : _) → long-rule.Post κs a r s → long-rule.Post κs a r′ s′ → r ≡ r′
-long-rule-determined κs a r r′ s s′ p q = p ∙ sym q
-
-pub divisor-rule-asks-nothing : (κs : _) (a : _) → divisor-rule.Pre κs a
-divisor-rule-asks-nothing κs a = tt
-
-pub divisor-rule-determined : (κs : _) (a : _) (r r′ : _) (s s′ : _) → divisor-rule.Post κs a r s → divisor-rule.Post κs a r′ s′ → r ≡ r′
-divisor-rule-determined κs a r r′ s s′ p q = p ∙ sym q
-
-pub work-rule-asks-nothing : (κs : _) (a : _) → work-rule.Pre κs a
-work-rule-asks-nothing κs a = tt
-
-pub work-rule-determined : (κs : _) (a : _) (r r′ : _) (s s′ : _) → work-rule.Post κs a r s → work-rule.Post κs a r′ s′ → r ≡ r′
-work-rule-determined κs a r r′ s s′ p q = p ∙ sym q
-
-pub find-faults-asks-nothing : (κs : _) (a : _) → find-faults.Pre κs a
-find-faults-asks-nothing κs a = tt
-
-pub find-faults-determined : (κs : _) (a : _) (r r′ : _) (s s′ : _) → find-faults.Post κs a r s → find-faults.Post κs a r′ s′ → r ≡ r′
-find-faults-determined κs a r r′ s s′ p q = p ∙ sym q
-
-pub check-asks-nothing : (κs : _) (a : _) → check.Pre κs a
-check-asks-nothing κs a = tt
-
-pub check-determined : (κs : _) (a : _) (r r′ : _) (s s′ : _) → check.Post κs a r s → check.Post κs a r′ s′ → r ≡ r′
-check-determined κs a r r′ s s′ p q = p ∙ sym q
-
-pub profile-of-asks-nothing : (κs : _) (a : _) → profile-of.Pre κs a
-profile-of-asks-nothing κs a = tt
-
-pub profile-of-determined : (κs : _) (a : _) (r r′ : _) (s s′ : _) → profile-of.Post κs a r s → profile-of.Post κs a r′ s′ → r ≡ r′
-profile-of-determined κs a r r′ s s′ p q = p ∙ sym q
+use Rattle.poly.proofs.room.clear.Reads as clear
 
 pub measure-asks-nothing : (κs : _) (a : _) → measure.Pre κs a
 measure-asks-nothing κs a = tt
@@ -107,14 +14,8 @@ measure-asks-nothing κs a = tt
 pub measure-determined : (κs : _) (a : _) (r r′ : _) (s s′ : _) → measure.Post κs a r s → measure.Post κs a r′ s′ → r ≡ r′
 measure-determined κs a r r′ s s′ p q = p ∙ sym q
 
-pub run-asks-nothing : (κs : _) (a : _) → run.Pre κs a
-run-asks-nothing κs a = tt
+pub clear-asks-nothing : (κs : _) (a : _) → clear.Pre κs a
+clear-asks-nothing κs a = tt
 
-pub run-determined : (κs : _) (a : _) (r r′ : _) (s s′ : _) → run.Post κs a r s → run.Post κs a r′ s′ → (r .now ≡ r′ .now) × (ptr r ≡ ptr r′)
-run-determined κs a r r′ s s′ p q = (p .0 ∙ sym (q .0), p .1 ∙ sym (q .1))
-
-pub run-part-asks-nothing : (κs : _) (a : _) → run-part.Pre κs a
-run-part-asks-nothing κs a = tt
-
-pub run-part-determined : (κs : _) (a : _) (r r′ : _) (s s′ : _) → run-part.Post κs a r s → run-part.Post κs a r′ s′ → r ≡ r′
-run-part-determined κs a r r′ s s′ p q = p ∙ sym q
+pub clear-determined : (κs : _) (a : _) (r r′ : _) (s s′ : _) → clear.Post κs a r s → clear.Post κs a r′ s′ → now (s .0) ≡ now (s′ .0)
+clear-determined κs a r r′ s s′ p q = p ∙ sym q

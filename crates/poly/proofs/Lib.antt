@@ -1,8 +1,9 @@
--- Laws of polynomials in memory that more than one function needs.
-pub mod Reports
-pub mod Faults
+-- Laws of polynomials in memory.
 pub mod Terms
-pub mod Valid
 pub mod Readings
-pub mod Parts
+pub mod Records
+pub mod Rooms
+pub mod Transport
+pub mod Maxima
+pub mod Heads
 pub mod Determined

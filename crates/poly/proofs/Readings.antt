@@ -38,7 +38,7 @@ use Rattle.algebra.proofs.Degrees.{largest-all}
 use Rattle.monomial.specs.Layout.{Layout, base, isMonomial}
 use Rattle.monomial.proofs.Laws.{read, write, fit, monomial-fits, monomial-word, word-monomial, word-read, coding}
 use Rattle.poly.specs.Words.{records, wordAt, numberAt, termAt, terms, span, polyOf, wordsOf, filled}
-use Rattle.poly.specs.Services.{measureOf}
+use Rattle.poly.specs.Profiles.{measureOf}
 use Rattle.poly.specs.Valid.{Valid}
 use Rattle.poly.proofs.Terms.{length-terms}
 

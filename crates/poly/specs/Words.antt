@@ -46,3 +46,6 @@ wordsOf l (u ∷ f) = wordOf (l .width) (l .count) (u .mon) ∷ u .num ∷ words
 
 abbrev pub filled : ℕ → List ℕ → List ℕ
 filled n ws = ws ++ replicate (n - length ws) 0
+
+abbrev pub cleared : List ℕ → List ℕ
+cleared s = replicate (length s) 0

@@ -1,6 +1,4 @@
-// Polynomials in memory: the report, the refusals 1 to 8, the check, the profile, the run of a power of x.
-pub mod check;
+// Polynomials in memory: records of words, rooms, keys, the largest exponents.
+pub mod keys;
 pub mod profile;
-pub mod report;
-pub mod rules;
-pub mod run;
+pub mod room;

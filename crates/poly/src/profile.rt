@@ -1,9 +1,11 @@
 // The profile of a polynomial.
 ghost use mathlib.Core.Path.{_≡_};
+ghost use mathlib.Core.Bool.{true};
 ghost use Prim.Native.Nat.{max};
-ghost use Rattle.poly.specs.Services.{measureOf, profileOf};
-use crate::check::check;
-use crate::report::Report;
+ghost use Rattle.monomial.specs.Layout.{base, fits, wordOf};
+ghost use Rattle.poly.specs.Words.{polyOf};
+ghost use Rattle.poly.specs.Profiles.{measureOf, maxima};
+use monomial::pack;
 
 // The term count, the largest exponents of x, y, z and t, and the largest total degree.
 #[repr(C)]
@@ -11,30 +13,6 @@ pub struct Profile {
     pub terms: u64,
     pub exponents: [u64; 4],
     pub total: u64,
-}
-
-#[repr(C)]
-pub struct Profiled {
-    pub report: Report,
-    pub profile: Profile,
-}
-
-// The profile of a polynomial beside its report; every number 0 where the report refuses.
-pub fn profile_of(p: u64, s: &[u64]) -> Profiled
-    ensures { λ r. ⌜ r ≡ profileOf p (now (s .entry)) ⌝ }
-{
-    let report = check(p, s);
-    if report.number == 0 {
-        let profile = measure(s);
-        Profiled { report, profile }
-    } else {
-        let profile = Profile {
-            terms: 0,
-            exponents: [0, 0, 0, 0],
-            total: 0,
-        };
-        Profiled { report, profile }
-    }
 }
 
 // The profile of the terms of any slice, unchecked.
@@ -72,4 +50,13 @@ fn greater(a: u64, b: u64) -> u64
     ensures { λ r. ⌜ r ≡ max a b ⌝ }
 {
     if a < b { b } else { a }
+}
+
+// The word of the largest exponents of a polynomial.
+pub fn largest_word(s: &[u64]) -> u64
+    requires { ⌜ fits 16 4 (maxima (polyOf base (now s))) ≡ true ⌝ }
+    ensures { λ r. ⌜ r ≡ wordOf 16 4 (maxima (polyOf base (now (s .entry)))) ⌝ }
+{
+    let m = measure(s).exponents;
+    pack(m[0], m[1], m[2], m[3]).value
 }

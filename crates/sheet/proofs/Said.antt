@@ -8,9 +8,9 @@ use mathlib.Core.Path.{_≡_, _∙_, ap}
 use mathlib.Core.Bool.{Bool}
 use mathlib.Core.List.{List, []}
 use lib.ListN.{length, take}
-use Rattle.poly.specs.declared.report.Report.{Report}
-use Rattle.ring.specs.Outcomes.{Outcome, outcome}
-use Rattle.division.specs.Calls.{Divided, divided}
+use Rattle.refusals.specs.declared.report.Report.{Report}
+use Rattle.calls.specs.Outcomes.{Outcome, outcome}
+use Rattle.division.specs.Division.{Divided, divided}
 use Rattle.claims.specs.Sheet.{sameWords, sameOutcome, sameDivided}
 use Rattle.sheet.specs.Cases.{lent, Lent, followed, after}
 use Rattle.sheet.proofs.Arrays.{lent-long, part-lent}

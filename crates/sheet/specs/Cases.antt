@@ -12,7 +12,7 @@ use mathlib.Core.List.{List, _++_}
 use lib.Dec.{ltb}
 use lib.ListN.{length, replicate}
 use Rattle.algebra.specs.Residues.{pick}
-use Rattle.poly.specs.declared.report.Report.{Report}
+use Rattle.refusals.specs.declared.report.Report.{Report}
 
 abbrev pub dirt : ℕ
 dirt = 0xdddddddddddddddd

@@ -1,6 +1,6 @@
 // The rows on moduli and on balanced values.
 ghost use mathlib.Core.Path.{_≡_};
-ghost use Rattle.poly.specs.Services.{checkOf};
+ghost use Rattle.services.specs.Services.{checkOf};
 ghost use Rattle.claims.specs.Sheet.{sameReport, sameNumber, balanced, balance, right};
 use crate::text::print_head;
 use crate::text::print_poly;
@@ -9,8 +9,8 @@ use crate::text::print_verdict;
 use crate::text::write;
 use crate::words::both;
 use crate::words::same_report;
-use poly::check::check;
-use poly::report::Report;
+use refusals::report::Report;
+use services::check::check;
 
 // A modulus, tried by the check of a polynomial.
 pub fn modulus_case(p: u64, a: &[u64], says: Report) -> bool

@@ -1,7 +1,7 @@
 // Runs the sheet of examples of document 01 through the engine, and prints a line for each case: its row, the call, the modulus, the
 // polynomials, the reply, and whether the report and every word lent are as the sheet says. The last line counts the cases. A program
 // in Rattle has no exit status: what this one has to print is stored beside it, and the gate compares.
-mod calls;
+mod cases;
 mod fields;
 mod outcomes;
 mod random;

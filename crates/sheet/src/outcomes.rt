@@ -2,8 +2,8 @@
 ghost use mathlib.Core.Path.{_≡_};
 ghost use mathlib.Core.List.{[]};
 ghost use lib.ListN.{length};
-ghost use Rattle.ring.specs.Outcomes.{outcome};
-ghost use Rattle.division.specs.Calls.{divided};
+ghost use Rattle.calls.specs.Outcomes.{outcome};
+ghost use Rattle.division.specs.Division.{divided};
 ghost use Rattle.claims.specs.Sheet.{sameOutcome, sameDivided};
 ghost use Rattle.sheet.specs.Cases.{after};
 use crate::tables::ZERO;
@@ -11,7 +11,7 @@ use crate::words::both;
 use crate::words::holds;
 use crate::words::rest_of;
 use crate::words::same_report;
-use poly::report::Report;
+use refusals::report::Report;
 
 // After a call with one room.
 pub fn outcome_said(

@@ -2,8 +2,8 @@
 ghost use Prim.Native.Nat.{_+_, _<_, _≤_};
 ghost use mathlib.Core.Path.{_≡_};
 ghost use mathlib.Core.List.{[], _∷_};
-ghost use Rattle.poly.specs.Reports.{done};
-ghost use Rattle.division.specs.Calls.{divided};
+ghost use Rattle.refusals.specs.Reports.{done};
+ghost use Rattle.division.specs.Division.{divided};
 ghost use Rattle.claims.specs.Sheet.{division, right};
 ghost use Rattle.sheet.specs.Cases.{lent, after};
 use crate::outcomes::divided_said;
@@ -11,7 +11,7 @@ use crate::tables::ONE;
 use crate::tables::ZERO;
 use crate::words::DIRT;
 use division::division::divide;
-use poly::report::done;
+use refusals::report::done;
 
 pub const SEED: u64 = 20261115;
 

@@ -3,11 +3,11 @@
 ghost use Prim.Native.Nat.{_<_, _≤_};
 ghost use mathlib.Core.Path.{_≡_};
 ghost use Rattle.algebra.specs.Residues.{pick};
-ghost use Rattle.poly.specs.Reports.{refusal};
-use crate::calls::array_case;
-use crate::calls::division_case;
-use crate::calls::product_case;
-use crate::calls::test_case;
+ghost use Rattle.refusals.specs.Reports.{refusal};
+use crate::cases::array_case;
+use crate::cases::division_case;
+use crate::cases::product_case;
+use crate::cases::test_case;
 use crate::fields::balanced_case;
 use crate::fields::modulus_case;
 use crate::random::DRAWS;
@@ -41,9 +41,9 @@ use crate::tables::ZERO;
 use crate::text::print_head;
 use crate::text::print_verdict;
 use crate::text::write;
-use poly::report::Report;
-use poly::report::done;
-use poly::report::refusal;
+use refusals::report::Report;
+use refusals::report::done;
+use refusals::report::refusal;
 
 const CASES: u64 = 35;
 

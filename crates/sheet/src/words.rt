@@ -4,7 +4,7 @@ ghost use mathlib.Core.Bool.{_&&_};
 ghost use lib.ListN.{length, getD};
 ghost use Rattle.claims.specs.Sheet.{sameReport, sameWords};
 ghost use Rattle.sheet.specs.Cases.{Lent, followed, restOf};
-use poly::report::Report;
+use refusals::report::Report;
 
 // What every word of an array is when it is lent.
 pub const DIRT: u64 = 0xdddddddddddddddd;

@@ -1,8 +1,8 @@
 -- `division::rules::divide_rules` meets its contract.
 use mathlib.Core.Path.{_∙_, ap}
-use Rattle.poly.specs.Reports.{firstOr}
-use Rattle.poly.proofs.Reports.{chain}
-use Rattle.ring.specs.Calls.{termRules}
+use Rattle.refusals.specs.Reports.{firstOr}
+use Rattle.refusals.proofs.Reports.{chain}
+use Rattle.calls.specs.Inputs.{termRules}
 use borrow.Author.Needs.{needs}
 use Rattle.division.proofs.rules.divide_rules.Statement.{statement}
 use Rattle.division.proofs.rules.divide_rules.Tie as tie

@@ -1,5 +1,5 @@
 -- `division::rules::last_rules` meets its contract.
-use Rattle.poly.proofs.Reports.{chain}
+use Rattle.refusals.proofs.Reports.{chain}
 use borrow.Author.Needs.{needs}
 use Rattle.division.proofs.rules.last_rules.Statement.{statement}
 use Rattle.division.proofs.rules.last_rules.Tie as tie

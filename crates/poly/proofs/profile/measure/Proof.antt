@@ -10,7 +10,7 @@ use Rattle.algebra.specs.Monomials.{Letters, exponent, degree}
 use Rattle.algebra.specs.Polynomials.{largest}
 use Rattle.monomial.specs.Layout.{base, exponentsOf}
 use Rattle.poly.specs.Words.{records, wordAt, terms, polyOf}
-use Rattle.poly.specs.Services.{measureOf}
+use Rattle.poly.specs.Profiles.{measureOf}
 use Rattle.poly.proofs.Terms.{largest-down, field-below}
 use Rattle.poly.proofs.profile.measure.Statement.{statement}
 use Rattle.poly.proofs.profile.measure.Tie as tie

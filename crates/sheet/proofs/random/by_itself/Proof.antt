@@ -2,7 +2,7 @@
 use denote.Ref.{now}
 use mathlib.Core.Path.{_∙_, ap}
 use mathlib.Core.List.{[], _∷_}
-use Rattle.division.specs.Calls.{divided, divideOf}
+use Rattle.division.specs.Division.{divided, divideOf}
 use Rattle.claims.specs.Sheet.{sameDivided}
 use Rattle.sheet.specs.Cases.{lent, after}
 use Rattle.sheet.proofs.Said.{divided-of}

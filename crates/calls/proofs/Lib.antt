@@ -1,0 +1,5 @@
+-- Laws that every call uses.
+pub mod Refusals
+pub mod Rooms
+pub mod Endings
+pub mod Determined

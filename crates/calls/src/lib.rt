@@ -1,0 +1,2 @@
+// What every call on polynomials shares.
+pub mod inputs;

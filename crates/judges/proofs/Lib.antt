@@ -1,0 +1,3 @@
+-- Laws of the judges.
+pub mod Judging
+pub mod Determined

@@ -1,0 +1,5 @@
+-- Laws of the product.
+pub mod Filling
+pub mod Bursts
+pub mod Products
+pub mod Determined

@@ -1,0 +1,3 @@
+-- The product. Read in this order.
+pub mod Products
+pub mod Filling

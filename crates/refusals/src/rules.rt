@@ -1,0 +1,135 @@
+// The refusals 1 to 8. A call folds those that it has with `or_else`, in the order in which they win.
+ghost use mathlib.Core.Path.{_≡_};
+ghost use Prim.Native.Nat.{_*_, _+_, _<_};
+ghost use lib.ListN.{length};
+ghost use Rattle.algebra.specs.Residues.{pick};
+ghost use Rattle.monomial.specs.Layout.{base};
+ghost use Rattle.refusals.specs.Rules.{unless, atTerm, guardAt, orderAt, badNumberAt, modulusRule, oddRule, longRule, divisorRule, workRule, faultsOf};
+use crate::report::Report;
+use crate::report::done;
+use crate::report::refusal;
+
+// The most terms of an input or a quotient room, and of any other room.
+pub const INPUT_TERMS: usize = 4096;
+
+pub const ROOM_TERMS: usize = 16777216;
+
+// The first term with each kind of fault; the number of terms where there is none.
+pub struct Faults {
+    pub guard: usize,
+    pub order: usize,
+    pub number: usize,
+}
+
+// A refusal where a test did not pass.
+pub fn unless(passed: bool, number: u64, operand: u64) -> Report
+    ensures { λ r. ⌜ r ≡ unless passed number operand ⌝ }
+{
+    if passed {
+        done(0, 0)
+    } else {
+        refusal(number, operand, 0)
+    }
+}
+
+// A refusal at a term, where there is such a term.
+pub fn at_term(number: u64, operand: u64, index: usize, count: usize) -> Report
+    ensures { λ r. ⌜ r ≡ atTerm number operand index count ⌝ }
+{
+    if index < count {
+        refusal(number, operand, index as u64)
+    } else {
+        done(0, 0)
+    }
+}
+
+// 1: the modulus is not a prime in its range.
+pub fn modulus_rule(p: u64) -> Report
+    ensures { λ r. ⌜ r ≡ modulusRule p ⌝ }
+{
+    unless(field::modulus(p) == 0, 1, 0)
+}
+
+// 2: odd length.
+pub fn odd_rule(operand: u64, s: &[u64]) -> Report
+    ensures { λ r. ⌜ r ≡ oddRule operand (now (s .entry)) ⌝ }
+{
+    unless(s.len() % 2 == 0, 2, operand)
+}
+
+// 3: more terms than allowed.
+pub fn long_rule(most: usize, operand: u64, s: &[u64]) -> Report
+    ensures { λ r. ⌜ r ≡ longRule most operand (now (s .entry)) ⌝ }
+{
+    unless(s.len() / 2 <= most, 3, operand)
+}
+
+// 7: the divisor is zero.
+pub fn divisor_rule(g: &[u64]) -> Report
+    ensures { λ r. ⌜ r ≡ divisorRule (now (g .entry)) ⌝ }
+{
+    unless(0 < g.len() / 2, 7, 2)
+}
+
+// 8: the work array is shorter than the least length.
+pub fn work_rule(least: usize, work: &[u64]) -> Report
+    ensures { λ r. ⌜ r ≡ workRule least (now (work .entry)) ⌝ }
+{
+    unless(least <= work.len(), 8, 5)
+}
+
+// The places of 4, 5 and 6 in one pass, from the last term down, so that the lowest place stands at the end.
+pub fn find_faults(p: u64, s: &[u64]) -> Faults
+    ensures { λ r. ⌜ r ≡ faultsOf base p (now (s .entry)) ⌝ }
+{
+    let n = s.len() / 2;
+    let mut guard = n;
+    let mut order = n;
+    let mut number = n;
+    let mut i = n;
+    while 0 < i {
+        i -= 1;
+        guard = choose(guard_at(s, i), i, guard);
+        order = choose(order_at(s, i), i, order);
+        number = choose(bad_number_at(p, s, i), i, number);
+    }
+    Faults {
+        guard,
+        order,
+        number,
+    }
+}
+
+fn choose(hit: bool, i: usize, place: usize) -> usize
+    ensures { λ r. ⌜ r ≡ pick hit i place ⌝ }
+{
+    if hit { i } else { place }
+}
+
+fn guard_at(s: &[u64], i: usize) -> bool
+    requires { ⌜ 2 * i < length (now s) ⌝ }
+    ensures { λ r. ⌜ r ≡ guardAt base (now (s .entry)) i ⌝ }
+{
+    !monomial::is_monomial(s[2 * i])
+}
+
+fn order_at(s: &[u64], i: usize) -> bool
+    requires { ⌜ 2 * i < length (now s) ⌝ }
+    ensures { λ r. ⌜ r ≡ orderAt (now (s .entry)) i ⌝ }
+{
+    if i == 0 {
+        return false;
+    }
+    s[2 * (i - 1)] <= s[2 * i]
+}
+
+fn bad_number_at(p: u64, s: &[u64], i: usize) -> bool
+    requires { ⌜ 2 * i + 1 < length (now s) ⌝ }
+    ensures { λ r. ⌜ r ≡ badNumberAt p (now (s .entry)) i ⌝ }
+{
+    let c = s[2 * i + 1];
+    if c == 0 {
+        return true;
+    }
+    p <= c
+}

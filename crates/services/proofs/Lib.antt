@@ -1,0 +1,3 @@
+-- Laws of the smaller services.
+pub mod Parts
+pub mod Determined

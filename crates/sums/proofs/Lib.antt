@@ -1,0 +1,3 @@
+-- Laws of sum and difference.
+pub mod Merging
+pub mod Determined

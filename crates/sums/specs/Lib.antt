@@ -1,0 +1,3 @@
+-- Sum and difference. Read in this order.
+pub mod Sums
+pub mod Merging

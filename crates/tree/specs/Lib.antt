@@ -1,0 +1,2 @@
+-- The tree of rows.
+pub mod Tree

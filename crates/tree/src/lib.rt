@@ -1,0 +1,3 @@
+// The tree of rows, which finds the greatest of many products, and its growth.
+pub mod growth;
+pub mod rows;

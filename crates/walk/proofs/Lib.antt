@@ -1,0 +1,8 @@
+-- Laws of the walk on words, in the order in which they build on one another.
+pub mod Seen
+pub mod Greatest
+pub mod Rows
+pub mod Onward
+pub mod Runs
+pub mod Growth
+pub mod Determined

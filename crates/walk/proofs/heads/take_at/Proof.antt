@@ -1,0 +1,20 @@
+-- `walk::heads::take_at` meets its contract.
+use Rattle.walk.proofs.Greatest.{nothing-taken}
+use borrow.Author.Needs.{needs}
+use Rattle.walk.proofs.heads.take_at.Statement.{statement}
+use Rattle.walk.proofs.heads.take_at.Tie as tie
+
+returns : tie.Need-returns
+returns c = (nothing-taken _ _ _ _ _ (c .before .before .before .before .pre .0 .0) (c .before .before .before .before .pre .0 .2) (c .before .before .before .before .pre .1 .1 (c .if1 .taken)) (c .before .before .before .before .pre .1 .0), c .before .before .before .before .pre .1 .1)
+
+take-requires : tie.Need-take-requires
+take-requires c κs = search needs
+
+same-length : tie.Need-same-length
+same-length c = search needs
+
+returns-2 : tie.Need-returns-2
+returns-2 c = search needs
+
+pub take-at-spec : {M : Type 1} → statement M
+take-at-spec = tie.close (tie.spec returns take-requires same-length returns-2)

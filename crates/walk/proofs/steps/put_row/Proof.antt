@@ -1,0 +1,39 @@
+-- `walk::steps::put_row` meets its contract.
+use native.Mathlib.Omega.{arith}
+use Rattle.walk.proofs.Rows.{row-ready, row-more, row-alone}
+use borrow.Author.Needs.{needs}
+use Rattle.walk.proofs.steps.put_row.Statement.{statement}
+use Rattle.walk.proofs.steps.put_row.Tie as tie
+
+put-term-requires : tie.Need-put-term-requires
+put-term-requires c κs = search needs
+
+same-length : tie.Need-same-length
+same-length c = search needs
+
+returns : tie.Need-returns
+returns c = let s = c .before .before .before .before .before .before .before .before .pre in row-alone _ _ _ _ _ _ _ (s .0 .0) (s .1 .0 .0) (s .1 .1) _ (c .before .before .before .put-term .ensures) (c .if1 .taken) (s .1 .0 .2)
+
+add-requires : tie.Need-add-requires
+add-requires c κs = let s = c .before .before .before .before .before .before .before .before .before .before .pre in row-ready _ _ _ _ _ _ _ (s .0 .0) (s .1 .0 .0) (s .1 .1) _ (c .before .before .before .before .before .put-term .ensures) (s .0 .1) (s .0 .3) (omega arith) (s .0 .4) (s .1 .0 .1) (s .1 .0 .2)
+
+same-length-2 : tie.Need-same-length-2
+same-length-2 c = search needs
+
+same-length-3 : tie.Need-same-length-3
+same-length-3 c = search needs
+
+returns-2 : tie.Need-returns-2
+returns-2 c = let s = c .before .before .before .before .before .before .before .before .before .before .before .before .before .pre in row-more _ _ _ _ _ _ _ (s .0 .0) (s .1 .0 .0) (s .1 .1) _ (c .before .before .before .before .before .before .before .before .put-term .ensures) _ (c .before .before .add .ensures)
+
+pub put-row-spec : {M : Type 1} → statement M
+put-row-spec =
+    tie.close
+    (tie.spec
+    put-term-requires
+    same-length
+    returns
+    add-requires
+    same-length-2
+    same-length-3
+    returns-2)

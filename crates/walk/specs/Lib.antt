@@ -1,0 +1,2 @@
+-- The walk on words.
+pub mod Walking

@@ -1,0 +1,123 @@
+-- The walk on words, step by step: what the engine's own functions promise one another. No caller of a public function meets it.
+--
+-- Quotient terms are the rows of a tree, the divisor's terms its columns, from the second on; the front of the quotient room is
+-- itself the slice of rows, zero records where nothing is written yet, and grows with the quotient. A key is a monomial word + 1, and 0 where there is none.
+--
+--   keyAt f i            the key of record i, 0 behind the last
+--   rest p f g q w i     what remains: the dividend's terms from record i on, less the products for which the tree waits
+--   seen p h             the terms of h, one for each monomial, the greatest first, words read as exponents
+--   judgesOf             the stops of a call: division's, or the divide test's
+--   quotientReply        what the judge of quotient terms says of a word
+--   Ready                all that a walk asks of its inputs, and what was computed once
+--   Walking              a walk that has come to record i of the dividend, with n quotient and j remainder terms written
+--   Fresh                rooms and work in which a walk may start
+--   Headed               the greatest monomial was taken out of what remains
+--   RowPut               a quotient term was written, and its products wait in the tree
+--   Stepped, Enough, Ran     what a step, the growing tree and the whole loop promise
+use Prim.Native.Nat.{ℕ, _+_, _-_, _*_, _^_, _<_, _≤_, max}
+use mathlib.Core.Path.{_≡_}
+use mathlib.Core.Bool.{true}
+use mathlib.Core.List.{List, [], _∷_, _++_}
+use mathlib.Core.Logic.{_⊎_}
+use lib.ListN.{length, set}
+use Rattle.algebra.specs.Monomials.{Letters, Numbers}
+use Rattle.algebra.specs.Orders.{Lex, Rising}
+use Rattle.algebra.specs.Polynomials.{term, Poly, times, negated, sorted, All}
+use Rattle.algebra.specs.Walk.{Walked, stopped, walk}
+use Rattle.algebra.proofs.Sorted.{Alike}
+use Rattle.algebra.proofs.Clauses.{joined}
+use Rattle.monomial.specs.Layout.{base, isMonomial}
+use Rattle.poly.specs.Words.{records, wordAt, numberAt, termAt, terms, span, polyOf}
+use Rattle.poly.proofs.Readings.{decodedPoly}
+use Rattle.tree.specs.Tree.{left, Live, Sides, Grown}
+use Rattle.judges.specs.Judges.{walkBy}
+use Rattle.judges.specs.declared.Plan.{Plan}
+use Rattle.walk.specs.declared.steps.State.{State}
+use Rattle.judges.specs.Plans.{judgesOf}
+use Rattle.poly.specs.Keys.{keyAt}
+
+abbrev pub rest : ℕ → List ℕ → List ℕ → List ℕ → List ℕ → ℕ → Poly Numbers
+rest p f g q w i = span f i (records f - i) ++ negated p (left q g w 0 (records q))
+
+abbrev pub seen : ℕ → Poly Numbers → Poly (Letters 4)
+seen p h = decodedPoly base (sorted Rising p h)
+
+-- all of the walk, and a walk on from what remains
+abbrev pub whole : ℕ → List ℕ → List ℕ → Plan → Walked (Letters 4)
+whole p f g plan = walkBy p (judgesOf f g plan) (polyOf base f) (polyOf base g)
+
+abbrev pub walkOn : ℕ → List ℕ → List ℕ → Plan → ℕ → ℕ → ℕ → Poly (Letters 4) → Walked (Letters 4)
+walkOn p f g plan n i j h = walk (Lex 4) p (termAt base g 0) (terms base g 1 (records g - 1)) (judgesOf f g plan) n i j h
+
+pub record Walking (p : ℕ) (f g : List ℕ) (plan : Plan) (q r w : List ℕ) (i n j : ℕ) : Type 0 where
+  pub live : Live q g w
+  pub sides : Sides q g p
+  pub remainders : plan .remainders ≡ records r
+  pub within : i ≤ records f
+  pub quotient-within : n ≤ records q
+  pub remainder-within : j ≤ records r
+  pub unwritten : (x : ℕ) → n ≤ x → x < records q → wordAt w (records q + x) ≡ 0
+  pub idle : records q ≡ 0 → wordAt w 1 ≡ 0
+  pub monomials : All {K = Numbers} (λ m. isMonomial base m ≡ true) (rest p f g q w i)
+  pub quotient-monomials : All {K = Numbers} (λ m. isMonomial base m ≡ true) (span q 0 n)
+  pub remainder-monomials : All {K = Numbers} (λ m. isMonomial base m ≡ true) (span r 0 j)
+  pub fuel : ℕ
+  pub enough : max (keyAt f i) (wordAt w 1) ≤ fuel
+  pub walked : whole p f g plan ≡ joined (decodedPoly base (span q 0 n)) (decodedPoly base (span r 0 j)) (walkOn p f g plan fuel n j (seen p (rest p f g q w i)))
+
+-- the rooms and the work, in which a walk may start: the records of the quotient room may be rows, and the work is long enough
+pub record Fresh (p : ℕ) (plan : Plan) (q r w : List ℕ) : Type 0 where
+  pub quotients : plan .quotients ≡ records q
+  pub remainders : plan .remainders ≡ records r
+  pub long : 4 * records q ≤ length w
+  pub few : records q < 2 ^ 32
+  pub small : (x : ℕ) → x < records q → (wordAt q x < 2 ^ 63) × (numberAt q x < p)
+
+-- what remains is the monomial of key k, c times, and the rest from record i′ on, with no key as great
+pub record Headed (p : ℕ) (f g q w : List ℕ) (i k : ℕ) (w′ : List ℕ) (i′ c : ℕ) : Type 0 where
+  pub as-long : length w′ ≡ length w
+  pub live : Live q g w′
+  pub small : c < p
+  pub within : i′ ≤ records f
+  pub empty : (x : ℕ) → x < records q → wordAt w (records q + x) ≡ 0 → wordAt w′ (records q + x) ≡ 0
+  pub idle : records q ≡ 0 → wordAt w′ 1 ≡ 0
+  pub alike : Alike p (rest p f g q w i) (term (k - 1) c ∷ rest p f g q w′ i′)
+  pub lower : max (keyAt f i′) (wordAt w′ 1) < k
+
+-- record n of the quotient room is a word and a number, and what waited before still does
+pub record RowPut (g q w : List ℕ) (n word number k : ℕ) (q′ w′ : List ℕ) : Type 0 where
+  pub written : q′ ≡ set (set q (2 * n) word) (2 * n + 1) number
+  pub as-long : length w′ ≡ length w
+  pub live : Live q′ g w′
+  pub before : Poly Numbers
+  pub after : Poly Numbers
+  pub was : left q g w 0 (records q) ≡ before ++ after
+  pub becomes : left q′ g w′ 0 (records q′) ≡ before ++ (times (term word number) (span g 1 (records g - 1)) ++ after)
+  pub others : (x : ℕ) → x < records q → (x ≡ n → ⊥) → wordAt w′ (records q + x) ≡ wordAt w (records q + x)
+  pub lower : wordAt w′ 1 < k
+
+pub record Stepped (p : ℕ) (f g : List ℕ) (plan : Plan) (q r w : List ℕ) (k : ℕ) (q′ r′ w′ : List ℕ) (s : State) : Type 0 where
+  pub quotient-long : length q′ ≡ length q
+  pub remainder-long : length r′ ≡ length r
+  pub work-long : length w′ ≡ length w
+  pub stops : (s .reply ≡ 0 → ⊥) → whole p f g plan .reply ≡ s .reply
+  pub goes-on : s .reply ≡ 0 → Walking p f g plan q′ r′ w′ (s .next) (s .quotient) (s .remainder)
+  pub lower : s .reply ≡ 0 → max (keyAt f (s .next)) (wordAt w′ 1) < k
+
+-- A tree of n rows has m rows afterwards, one that is not taken among them as far as the room goes.
+pub record Enough (n taken room : ℕ) (w w′ : List ℕ) (m : ℕ) : Type 0 where
+  pub more : n ≤ m
+  pub within : m ≤ room
+  pub free : taken ≤ n → taken < room → taken < m
+  pub grown : ((m ≡ n) × (w′ ≡ w)) ⊎ ((0 < n) × Grown n m w w′)
+
+pub record Ran (p : ℕ) (f g : List ℕ) (plan : Plan) (q r w q′ r′ w′ : List ℕ) (s : State) : Type 0 where
+  pub quotient-long : length q′ ≡ length q
+  pub remainder-long : length r′ ≡ length r
+  pub work-long : length w′ ≡ length w
+  pub replies : whole p f g plan .reply ≡ s .reply
+  pub quotient-within : s .reply ≡ 0 → s .quotient ≤ records q
+  pub remainder-within : s .reply ≡ 0 → s .remainder ≤ records r
+  pub quotient-monomials : s .reply ≡ 0 → All {K = Numbers} (λ m. isMonomial base m ≡ true) (span q′ 0 (s .quotient))
+  pub remainder-monomials : s .reply ≡ 0 → All {K = Numbers} (λ m. isMonomial base m ≡ true) (span r′ 0 (s .remainder))
+  pub ends : s .reply ≡ 0 → whole p f g plan ≡ joined (decodedPoly base (span q′ 0 (s .quotient))) (decodedPoly base (span r′ 0 (s .remainder))) (stopped 0 [])
