@@ -54,7 +54,10 @@ module _ {K L : Monomials} {O : Order K} {O′ : Order L} (N : Named O O′) whe
       named-keep (u .mon) (u .num) (nonzero f) ∙ ap (keep (N .name (u .mon)) (u .num)) (named-nonzero f)
 
   -- two ways to compare that agree
-  named-placed : (p : ℕ) (m : K .Mon) (c : ℕ) (u : Term K) (f rest : Poly K) (rest′ : Poly L) → N .Fits m → N .Fits (u .mon) → named rest ≡ rest′ → (t : Tri (O .less m (u .mon)) (m ≡ u .mon) (O .less (u .mon) m)) (t′ : Tri (O′ .less (N .name m) (N .name (u .mon))) (N .name m ≡ N .name (u .mon)) (O′ .less (N .name (u .mon)) (N .name m))) → named (placed O p m c u f rest t) ≡ placed O′ p (N .name m) c (term (N .name (u .mon)) (u .num)) (named f) rest′ t′
+  named-placed : (p : ℕ) (m : K .Mon) (c : ℕ) (u : Term K) (f rest : Poly K) (rest′ : Poly L) → N .Fits m → N .Fits (u .mon) → named rest ≡ rest′ →
+      (t : Tri (O .less m (u .mon)) (m ≡ u .mon) (O .less (u .mon) m))
+      (t′ : Tri (O′ .less (N .name m) (N .name (u .mon))) (N .name m ≡ N .name (u .mon)) (O′ .less (N .name (u .mon)) (N .name m))) →
+      named (placed O p m c u f rest t) ≡ placed O′ p (N .name m) c (term (N .name (u .mon)) (u .num)) (named f) rest′ t′
   named-placed p m c u f rest rest′ fm fu e (below h) (below k) = ap (λ (g : Poly L). term (N .name (u .mon)) (u .num) ∷ g) e
   named-placed p m c u f rest rest′ fm fu e (level h) (level k) = refl
   named-placed p m c u f rest rest′ fm fu e (above h) (above k) = refl

@@ -19,9 +19,10 @@ use Rattle.algebra.specs.Monomials.{Monomials}
 use Rattle.algebra.specs.Orders.{Order, Weight, Weighted, Then}
 use Rattle.algebra.specs.Polynomials.{Term, Poly, only, coef, Equal, mul, largest, norm, All, Below, Normal}
 use Rattle.algebra.proofs.Residues.{same-eq, same-sym, same-trans}
-use Rattle.algebra.proofs.NormalForm.{all-map, below-coef, lead-coef, norm-normal, norm-equal, norm-unique, norm-self, equal-refl, equal-sym, equal-trans}
+use Rattle.algebra.proofs.NormalForm.{below-coef, lead-coef, norm-normal, norm-equal, norm-unique, norm-self, equal-refl, equal-sym, equal-trans}
+use Rattle.algebra.proofs.All.{all-map}
 use Rattle.algebra.proofs.Ring.{mul-equal}
-use Rattle.algebra.proofs.Leads.{prime-positive, normal-tail, coef-number, lead-mul}
+use Rattle.algebra.proofs.Leads.{prime-positive, normal-tail, lead-nonzero, lead-mul}
 
 module _ {K : Monomials} (w : K .Mon → ℕ) where
   pub largest-all : (f : Poly K) → All (λ m. w m ≤ largest w f) f
@@ -47,7 +48,7 @@ module _ {K : Monomials} (w : K .Mon → ℕ) where
   largest-bound O p b [] n h = omega arith
   largest-bound O p b (u ∷ f) n h =
       max-le
-      (h (u .mon) (λ z. coef-number u f n (same-trans (same-eq (sym (lead-coef O u f (n .falling .0)))) z)))
+      (h (u .mon) (λ z. lead-nonzero u f n (same-trans (same-eq (sym (lead-coef O u f (n .falling .0)))) z)))
       (largest-bound O p b f (normal-tail u f n) (λ m z. go m z (K .decide (u .mon) m) (h m)))
     where
       go : (m : K .Mon) → (Same p (coef f m) 0 → ⊥) → (d : Dec (u .mon ≡ m)) → ((Same p (only d (u .num) + coef f m) 0 → ⊥) → w m ≤ b) → w m ≤ b
@@ -62,7 +63,7 @@ module _ {K : Monomials} (w : K .Mon → ℕ) where
 
 pub not-zero : {K : Monomials} (O : Order K) {p : ℕ} (u : Term K) (f : Poly K) → Normal O p (u ∷ f) → Equal p (u ∷ f) [] → ⊥
 not-zero O u f n e =
-    coef-number u f n (same-trans (same-eq (sym (lead-coef O u f (n .falling .0)))) (e .equal (u .mon)))
+    lead-nonzero u f n (same-trans (same-eq (sym (lead-coef O u f (n .falling .0)))) (e .equal (u .mon)))
 
 module _ {K : Monomials} (O : Order K) (w : Weight K) where
   heavy : {x y : ℕ} {R : Type 0} → Then x y R → x ≤ y
@@ -76,7 +77,8 @@ module _ {K : Monomials} (O : Order K) (w : Weight K) where
   lead-largest : {p : ℕ} (u : Term K) (f : Poly K) → Normal (Weighted O w) p (u ∷ f) → largest (w .weigh) (u ∷ f) ≡ w .weigh (u .mon)
   lead-largest u f n = omega (arith, below-largest (u .mon) f (n .falling .0))
 
-  pub largest-mul : {p : ℕ} → Prime p → (t u : Term K) (f g : Poly K) → Normal O p (t ∷ f) → Normal O p (u ∷ g) → largest (w .weigh) (norm O p (mul (t ∷ f) (u ∷ g))) ≡ largest (w .weigh) (t ∷ f) + largest (w .weigh) (u ∷ g)
+  pub largest-mul : {p : ℕ} → Prime p → (t u : Term K) (f g : Poly K) → Normal O p (t ∷ f) → Normal O p (u ∷ g) →
+      largest (w .weigh) (norm O p (mul (t ∷ f) (u ∷ g))) ≡ largest (w .weigh) (t ∷ f) + largest (w .weigh) (u ∷ g)
   largest-mul {p} P t u f g nf ng =
       go (norm W p (t ∷ f)) (norm W p (u ∷ g)) (norm-normal W pos (t ∷ f)) (norm-normal W pos (u ∷ g)) (norm-equal W pos (t ∷ f)) (norm-equal W pos (u ∷ g))
     where
@@ -86,7 +88,8 @@ module _ {K : Monomials} (O : Order K) (w : Weight K) where
       pos : 0 < p
       pos = prime-positive P
 
-      go : (a b : Poly K) → Normal W p a → Normal W p b → Equal p a (t ∷ f) → Equal p b (u ∷ g) → largest (w .weigh) (norm O p (mul (t ∷ f) (u ∷ g))) ≡ largest (w .weigh) (t ∷ f) + largest (w .weigh) (u ∷ g)
+      go : (a b : Poly K) → Normal W p a → Normal W p b → Equal p a (t ∷ f) → Equal p b (u ∷ g) →
+          largest (w .weigh) (norm O p (mul (t ∷ f) (u ∷ g))) ≡ largest (w .weigh) (t ∷ f) + largest (w .weigh) (u ∷ g)
       go [] b na nb ea eb = absurd (not-zero O t f nf (equal-sym ea))
       go (a ∷ f′) [] na nb ea eb = absurd (not-zero O u g ng (equal-sym eb))
       go (a ∷ f′) (b ∷ g′) na nb ea eb =
@@ -101,7 +104,8 @@ module _ {K : Monomials} (O : Order K) (w : Weight K) where
           (sym (lead-largest a f′ na) ∙ largest-equal (w .weigh) W O p (a ∷ f′) (t ∷ f) na nf ea) i
           + (sym (lead-largest b g′ nb) ∙ largest-equal (w .weigh) W O p (b ∷ g′) (u ∷ g) nb ng eb) i)
 
-  pub factor-weight : {p : ℕ} → Prime p → (f h : Poly K) (u : Term K) (g : Poly K) → Normal O p f → Normal O p (u ∷ g) → Equal p f (mul h (u ∷ g)) → (m : K .Mon) → (Same p (coef h m) 0 → ⊥) → w .weigh m + largest (w .weigh) (u ∷ g) ≤ largest (w .weigh) f
+  pub factor-weight : {p : ℕ} → Prime p → (f h : Poly K) (u : Term K) (g : Poly K) → Normal O p f → Normal O p (u ∷ g) → Equal p f (mul h (u ∷ g)) →
+      (m : K .Mon) → (Same p (coef h m) 0 → ⊥) → w .weigh m + largest (w .weigh) (u ∷ g) ≤ largest (w .weigh) f
   factor-weight {p} P f h u g nf ng e m c = go (norm O p h) refl (norm-normal O pos h)
     where
       pos : 0 < p
@@ -111,7 +115,9 @@ module _ {K : Monomials} (O : Order K) (w : Weight K) where
       go [] d n = absurd (c (same-trans (same-sym (norm-equal O pos h .equal m)) (same-eq (ap (λ (k : Poly K). coef k m) d))))
       go (t ∷ k) d n =
           let top : largest (w .weigh) (norm O p (mul (t ∷ k) (u ∷ g))) ≡ largest (w .weigh) (t ∷ k) + largest (w .weigh) (u ∷ g) = largest-mul P t u k g n ng in
-          let all : norm O p (mul (t ∷ k) (u ∷ g)) ≡ f = norm-unique O pos (equal-trans (mul-equal O pos (subst (λ x. Equal p x h) d (norm-equal O pos h)) equal-refl) (equal-sym e)) ∙ norm-self O pos f nf in
-          let here : w .weigh m ≤ largest (w .weigh) (t ∷ k) = largest-at (w .weigh) (t ∷ k) m (λ z. c (same-trans (same-sym (norm-equal O pos h .equal m)) (same-eq (ap (λ (k : Poly K). coef k m) d ∙ z)))) in
+          let all : norm O p (mul (t ∷ k) (u ∷ g)) ≡ f = norm-unique O pos
+          (equal-trans (mul-equal O pos (subst (λ x. Equal p x h) d (norm-equal O pos h)) equal-refl) (equal-sym e)) ∙ norm-self O pos f nf in
+          let here : w .weigh m ≤ largest (w .weigh) (t ∷ k) =
+          largest-at (w .weigh) (t ∷ k) m (λ z. c (same-trans (same-sym (norm-equal O pos h .equal m)) (same-eq (ap (λ (k : Poly K). coef k m) d ∙ z)))) in
           let same : largest (w .weigh) (norm O p (mul (t ∷ k) (u ∷ g))) ≡ largest (w .weigh) f = ap (largest (w .weigh)) all in
           omega arith

@@ -20,8 +20,8 @@ use Rattle.algebra.proofs.Primes.{mod-cancel}
 use Rattle.algebra.proofs.Totals.{equal-by}
 use Rattle.algebra.proofs.NormalForm.{Small, sorted-falling, sorted-small, lead-coef, norm-normal, norm-equal, norm-unique, norm-self, extract, equal-refl, equal-sym, equal-trans}
 use Rattle.algebra.proofs.Ring.{mul-equal, sum-cancel-left}
-use Rattle.algebra.proofs.Leads.{prime-positive, normal-tail, coef-number, keep-positive, lead-mul, multiple-zero}
-use Rattle.algebra.proofs.Walk.{quotient-number, step-equation}
+use Rattle.algebra.proofs.Leads.{prime-positive, normal-tail, lead-nonzero, keep-positive, lead-mul, multiple-zero}
+use Rattle.algebra.proofs.Walk.{quotient-coef, step-equation}
 
 pub record Exact {K : Monomials} (O : Order K) (p : ℕ) (lead : Term K) (later : Poly K) (J : Judges K) (h : Poly K) (i : ℕ) (w : Walked K) : Type 0 where
   pub none : w .remainder ≡ []
@@ -41,8 +41,10 @@ module _ {K : Monomials} (O : Order K) {p : ℕ} (P : Prime p) (lead : Term K) (
 
   heads : (u t : Term K) (f k : Poly K) → Falling O (u ∷ f) → 0 < u .num → u .num < p → Normal O p (t ∷ k) → Equal p (u ∷ f) (mul (t ∷ k) (lead ∷ later)) → Heads u t
   heads u t f k fall h l n e =
-      let one : norm O p (u ∷ f) ≡ term (u .mon) (u .num) ∷ norm O p f = extract O pos (u .mon) (u .num) f equal-refl (fall .0) ∙ ap (λ c. keep (u .mon) c (norm O p f)) (mod-eq-of-lt l) ∙ keep-positive (u .mon) (u .num) (norm O p f) h in
-      let two : term (K .mul (t .mon) (lead .mon)) (t .num * lead .num % p) ∷ norm O p (times t later ++ mul k (lead ∷ later)) ≡ u ∷ norm O p f = sym (lead-mul O P t lead k later n ng) ∙ norm-unique O pos (equal-sym e) ∙ one in
+      let one : norm O p (u ∷ f) ≡ term (u .mon) (u .num) ∷ norm O p f = extract O pos (u .mon) (u .num) f equal-refl (fall .0)
+      ∙ ap (λ c. keep (u .mon) c (norm O p f)) (mod-eq-of-lt l) ∙ keep-positive (u .mon) (u .num) (norm O p f) h in
+      let two : term (K .mul (t .mon) (lead .mon)) (t .num * lead .num % p) ∷ norm O p (times t later ++ mul k (lead ∷ later)) ≡ u ∷ norm O p f =
+      sym (lead-mul O P t lead k later n ng) ∙ norm-unique O pos (equal-sym e) ∙ one in
       record {
         mons = ap (λ (f : Poly K). getD f 0 u .mon) two;
         nums = same-trans (same-sym (same-mod (t .num * lead .num))) (same-eq (ap (λ (f : Poly K). getD f 0 u .num) two));
@@ -52,7 +54,9 @@ module _ {K : Monomials} (O : Order K) {p : ℕ} (P : Prime p) (lead : Term K) (
   same-term : (u t : Term K) (k : Poly K) → Normal O p (t ∷ k) → Heads u t → (q : K .Mon) → K .mul (lead .mon) q ≡ u .mon → quotientTerm p lead q u ≡ t
   same-term u t k n s q e =
       let m : q ≡ t .mon = K .mul-cancel (lead .mon) q (t .mon) (e ∙ sym (s .mons) ∙ K .mul-comm (t .mon) (lead .mon)) in
-      let c : u .num * inverse p (lead .num) % p ≡ t .num = same-below (mod-lt (u .num * inverse p (lead .num)) pos) (n .reduced .1) (mod-cancel P (lead .num) (coef-number lead later ng) _ _ (same-trans (same-eq (mul-comm (lead .num) _)) (same-trans (quotient-number O P lead later ng (u .num)) (same-trans (same-sym (s .nums)) (same-eq (mul-comm (t .num) (lead .num))))))) in
+      let c : u .num * inverse p (lead .num) % p ≡ t .num = same-below (mod-lt (u .num * inverse p (lead .num)) pos) (n .reduced .1)
+      (mod-cancel P (lead .num) (lead-nonzero lead later ng) _ _
+      (same-trans (same-eq (mul-comm (lead .num) _)) (same-trans (quotient-coef O P lead later ng (u .num)) (same-trans (same-sym (s .nums)) (same-eq (mul-comm (t .num) (lead .num))))))) in
       λ i. record { mon = m i; num = c i }
 
   module _ (J : Judges K) where
@@ -60,7 +64,8 @@ module _ {K : Monomials} (O : Order K) {p : ℕ} (P : Prime p) (lead : Term K) (
     skipped u f h z e =
         equal-trans (equal-by (λ φ. same-eq (omega (arith, ap (λ (x : ℕ). x * φ (u .mon)) z)))) e
 
-    quotient-exact : (h : Poly K) (i : ℕ) (u t : Term K) (f k : Poly K) (w : Walked K) (r : ℕ) → J .onQuotient i t ≡ r → norm O p h ≡ t ∷ k → Normal O p (t ∷ k) → Equal p (u ∷ f) (mul (t ∷ k) (lead ∷ later)) → Exact O p lead later J k (suc i) w → Exact O p lead later J h i (toQuotient r t (u ∷ f) w)
+    quotient-exact : (h : Poly K) (i : ℕ) (u t : Term K) (f k : Poly K) (w : Walked K) (r : ℕ) → J .onQuotient i t ≡ r → norm O p h ≡ t ∷ k →
+        Normal O p (t ∷ k) → Equal p (u ∷ f) (mul (t ∷ k) (lead ∷ later)) → Exact O p lead later J k (suc i) w → Exact O p lead later J h i (toQuotient r t (u ∷ f) w)
     quotient-exact h i u t f k w (suc r) j e n d x =
         record {
           none = refl;
@@ -78,7 +83,9 @@ module _ {K : Monomials} (O : Order K) {p : ℕ} (P : Prime p) (lead : Term K) (
           ended = ended (x .ended);
         }
       where
-        ended : ((w .reply ≡ 0) × (x .rest ≡ [])) ⊎ ((w .reply ≡ unfinished) ⊎ ((v : Term K) × (k : Poly K) × (x .rest ≡ v ∷ k) × (w .reply ≡ J .onQuotient (suc i + length (w .quotient)) v))) → ((w .reply ≡ 0) × (x .rest ≡ [])) ⊎ ((w .reply ≡ unfinished) ⊎ ((v : Term K) × (k : Poly K) × (x .rest ≡ v ∷ k) × (w .reply ≡ J .onQuotient (i + suc (length (w .quotient))) v)))
+        ended : ((w .reply ≡ 0) × (x .rest ≡ [])) ⊎ ((w .reply ≡ unfinished) ⊎
+            ((v : Term K) × (k : Poly K) × (x .rest ≡ v ∷ k) × (w .reply ≡ J .onQuotient (suc i + length (w .quotient)) v))) →
+            ((w .reply ≡ 0) × (x .rest ≡ [])) ⊎ ((w .reply ≡ unfinished) ⊎ ((v : Term K) × (k : Poly K) × (x .rest ≡ v ∷ k) × (w .reply ≡ J .onQuotient (i + suc (length (w .quotient))) v)))
         ended (inl a) = inl a
         ended (inr (inl a)) = inr (inl a)
         ended (inr (inr a)) =
@@ -88,7 +95,9 @@ module _ {K : Monomials} (O : Order K) {p : ℕ} (P : Prime p) (lead : Term K) (
     Walks next = (i j : ℕ) (f h : Poly K) → Falling O f → Small p f → Equal p f (mul h (lead ∷ later)) → Exact O p lead later J h i (next i j f)
 
     -- one step with a number other than 0, where h's normal form is the list given
-    handle-exact : (next : ℕ → ℕ → Poly K → Walked K) → Walks next → (i j : ℕ) (u : Term K) (f h : Poly K) → Falling O (u ∷ f) → 0 < u .num → u .num < p → Equal p (u ∷ f) (mul h (lead ∷ later)) → (n : Poly K) → norm O p h ≡ n → Normal O p n → (c : ℕ) (d : Dec ((q : K .Mon) × (K .mul (lead .mon) q ≡ u .mon))) → Exact O p lead later J h i (handle O p lead later J next i j u f (suc c) d)
+    handle-exact : (next : ℕ → ℕ → Poly K → Walked K) → Walks next → (i j : ℕ) (u : Term K) (f h : Poly K) → Falling O (u ∷ f) → 0 < u .num →
+        u .num < p → Equal p (u ∷ f) (mul h (lead ∷ later)) → (n : Poly K) → norm O p h
+        ≡ n → Normal O p n → (c : ℕ) (d : Dec ((q : K .Mon) × (K .mul (lead .mon) q ≡ u .mon))) → Exact O p lead later J h i (handle O p lead later J next i j u f (suc c) d)
     handle-exact next go i j u f h fall s l e [] en n c d =
         let zero : Equal p h [] = equal-trans (equal-sym (norm-equal O pos h)) (subst (λ x. Equal p x []) (sym en) equal-refl) in
         let none : Same p (u .num) 0 = same-trans (same-eq (sym (lead-coef O u f (fall .0)))) (equal-trans e (mul-equal O pos zero equal-refl) .equal (u .mon)) in
@@ -98,16 +107,20 @@ module _ {K : Monomials} (O : Order K) {p : ℕ} (P : Prime p) (lead : Term K) (
         let x : Heads u t = heads u t f k fall s l n (equal-trans e (mul-equal O pos (equal-trans (equal-sym (norm-equal O pos h)) (subst (λ x. Equal p x (t ∷ k)) (sym en) equal-refl)) equal-refl)) in
         absurd (d (t .mon, K .mul-comm (lead .mon) (t .mon) ∙ x .mons))
     handle-exact next go i j u f h fall s l e (t ∷ k) en n c (yes q) =
-        let whole : Equal p (u ∷ f) (mul (t ∷ k) (lead ∷ later)) = equal-trans e (mul-equal O pos (equal-trans (equal-sym (norm-equal O pos h)) (subst (λ x. Equal p x (t ∷ k)) (sym en) equal-refl)) equal-refl) in
+        let whole : Equal p (u ∷ f) (mul (t ∷ k) (lead ∷ later)) =
+        equal-trans e (mul-equal O pos (equal-trans (equal-sym (norm-equal O pos h)) (subst (λ x. Equal p x (t ∷ k)) (sym en) equal-refl)) equal-refl) in
         let x : Heads u t = heads u t f k fall s l n whole in
         let f′ = f ++ negated p (times t later) in
-        let left : Equal p (remains O p later t f) (mul k (lead ∷ later)) = sum-cancel-left O pos (times t (lead ∷ later)) (equal-trans (equal-sym (step-equation O P lead later ng u t f (x .nums) (x .mons))) whole) in
+        let left : Equal p (remains O p later t f) (mul k (lead ∷ later)) =
+        sum-cancel-left O pos (times t (lead ∷ later)) (equal-trans (equal-sym (step-equation O P lead later ng u t f (x .nums) (x .mons))) whole) in
         subst
         (λ v. Exact O p lead later J h i (toQuotient (J .onQuotient i v) v (u ∷ f) (next (suc i) j (remains O p later v f))))
         (sym (same-term u t k n x (q .0) (q .1)))
         (quotient-exact h i u t f k _ (J .onQuotient i t) refl en n whole (go (suc i) j (remains O p later t f) k (sorted-falling O p pos f′) (sorted-small O p pos f′) left))
 
-    step-exact : (next : ℕ → ℕ → Poly K → Walked K) → Walks next → (i j : ℕ) (u : Term K) (f h : Poly K) → Falling O (u ∷ f) → Small p (u ∷ f) → Equal p (u ∷ f) (mul h (lead ∷ later)) → (c : ℕ) → c ≡ u .num → (d : Dec ((q : K .Mon) × (K .mul (lead .mon) q ≡ u .mon))) → Exact O p lead later J h i (handle O p lead later J next i j u f c d)
+    step-exact : (next : ℕ → ℕ → Poly K → Walked K) → Walks next → (i j : ℕ) (u : Term K) (f h : Poly K) → Falling O (u ∷ f) → Small p (u ∷ f) →
+        Equal p (u ∷ f) (mul h (lead ∷ later)) → (c : ℕ) → c
+        ≡ u .num → (d : Dec ((q : K .Mon) × (K .mul (lead .mon) q ≡ u .mon))) → Exact O p lead later J h i (handle O p lead later J next i j u f c d)
     step-exact next go i j u f h fall small e zero z d = go i j f h (fall .1) (small .1) (skipped u f h z e)
     step-exact next go i j u f h fall small e (suc c) z d =
         handle-exact next go i j u f h fall (omega arith) (small .0) e (norm O p h) refl (norm-normal O pos h) c d

@@ -1,12 +1,12 @@
 -- Leads of products, and the uniqueness of division.
 --
---   normal-tail           what follows the lead of a normal polynomial is normal
---   coef-number           the number of a normal polynomial's lead is not the same as 0
+--   normal-tail               what follows the lead of a normal polynomial is normal
+--   lead-nonzero               the number of a normal polynomial's lead is not the same as 0
 --   times-below, mul-below    products of smaller monomials are smaller
---   lead-mul              the lead of a product is the product of the leads
---   mul-lead-coef         a product of nonzero polynomials has a coefficient at the product of the leads
---   multiple-zero         a multiple of g that has no term divisible by g's lead is zero
---   division-unique       f ≡ q · g + r with no monomial of r divisible by g's lead: the only such pair, against any lists q′, r′
+--   lead-mul                  the lead of a product is the product of the leads
+--   mul-lead-coef             a product of nonzero polynomials has a coefficient at the product of the leads
+--   multiple-zero             a multiple of g that has no term divisible by g's lead is zero
+--   division-unique           f ≡ q · g + r with no monomial of r divisible by g's lead: the only such pair, against any lists q′, r′
 use Prim.Native.Nat.{ℕ, zero, suc, _+_, _-_, _*_, _%_, _<_, _≤_}
 use mathlib.Core.Path.{_≡_, refl, sym, _∙_, ap, subst}
 use mathlib.Core.List.{[], _∷_, _++_}
@@ -19,7 +19,8 @@ use Rattle.algebra.specs.Orders.{Order}
 use Rattle.algebra.specs.Polynomials.{Term, term, Poly, coef, Equal, NoMultiple, times, mul, negated, keep, norm, Below, Falling, Normal}
 use Rattle.algebra.proofs.Residues.{same-eq, same-refl, same-sym, same-trans, same-add, same-below, same-minus}
 use Rattle.algebra.proofs.Primes.{euclid}
-use Rattle.algebra.proofs.NormalForm.{below-trans, all-append, norm-normal, norm-equal, equal-refl, equal-sym, equal-trans, extract, lead-coef}
+use Rattle.algebra.proofs.NormalForm.{below-trans, norm-normal, norm-equal, equal-refl, equal-sym, equal-trans, extract, lead-coef}
+use Rattle.algebra.proofs.All.{all-append}
 use Rattle.algebra.proofs.Ring.{sum-equal, sum-mul, sum-cancel-left, difference-zero, mul-equal, mul-negated, coef-negated}
 use Rattle.algebra.proofs.Totals.{coef-append}
 
@@ -30,8 +31,8 @@ module _ {K : Monomials} {O : Order K} {p : ℕ} where
   pub normal-tail : (u : Term K) (f : Poly K) → Normal O p (u ∷ f) → Normal O p f
   normal-tail u f n = record { falling = n .falling .1; reduced = n .reduced .2 }
 
-  pub coef-number : (u : Term K) (f : Poly K) → Normal O p (u ∷ f) → Same p (u .num) 0 → ⊥
-  coef-number u f n e =
+  pub lead-nonzero : (u : Term K) (f : Poly K) → Normal O p (u ∷ f) → Same p (u .num) 0 → ⊥
+  lead-nonzero u f n e =
       let h : 0 < u .num = n .reduced .0 in
       let k : u .num < p = n .reduced .1 in
       let z : u .num ≡ 0 = same-below k (omega arith) e in
@@ -63,18 +64,19 @@ keep-positive m zero f h = absurd (omega arith)
 keep-positive m (suc c) f h = refl
 
 module _ {K : Monomials} (O : Order K) {p : ℕ} (P : Prime p) where
-  number-mul : (t u : Term K) (f g : Poly K) → Normal O p (t ∷ f) → Normal O p (u ∷ g) → 0 < t .num * u .num % p
-  number-mul t u f g nf ng =
+  product-nonzero : (t u : Term K) (f g : Poly K) → Normal O p (t ∷ f) → Normal O p (u ∷ g) → 0 < t .num * u .num % p
+  product-nonzero t u f g nf ng =
       pos-of-ne-zero
-      (λ e. ⊎-elim (coef-number t f nf) (coef-number u g ng) (euclid P (t .num) (u .num) (record { same = e ∙ sym (zero-mod p) })))
+      (λ e. ⊎-elim (lead-nonzero t f nf) (lead-nonzero u g ng) (euclid P (t .num) (u .num) (record { same = e ∙ sym (zero-mod p) })))
 
-  pub lead-mul : (t u : Term K) (f g : Poly K) → Normal O p (t ∷ f) → Normal O p (u ∷ g) → norm O p (mul (t ∷ f) (u ∷ g)) ≡ term (K .mul (t .mon) (u .mon)) (t .num * u .num % p) ∷ norm O p (times t g ++ mul f (u ∷ g))
+  pub lead-mul : (t u : Term K) (f g : Poly K) → Normal O p (t ∷ f) → Normal O p (u ∷ g) →
+      norm O p (mul (t ∷ f) (u ∷ g)) ≡ term (K .mul (t .mon) (u .mon)) (t .num * u .num % p) ∷ norm O p (times t g ++ mul f (u ∷ g))
   lead-mul t u f g nf ng =
       extract O (prime-positive P) (K .mul (t .mon) (u .mon)) (t .num * u .num) (times t g ++ mul f (u ∷ g)) equal-refl
       (all-append (λ n. O .less n (K .mul (t .mon) (u .mon))) (times t g) (mul f (u ∷ g))
       (times-below O t (u .mon) g (ng .falling .0))
       (mul-below O (t .mon) u f g (nf .falling .0) (ng .falling)))
-      ∙ keep-positive _ _ _ (number-mul t u f g nf ng)
+      ∙ keep-positive _ _ _ (product-nonzero t u f g nf ng)
 
   -- a product of normal, nonzero polynomials has a coefficient at the product of the leads
   pub mul-lead-coef : (t u : Term K) (f g : Poly K) → Normal O p (t ∷ f) → Normal O p (u ∷ g) → Same p (coef (mul (t ∷ f) (u ∷ g)) (K .mul (t .mon) (u .mon))) 0 → ⊥
@@ -82,7 +84,7 @@ module _ {K : Monomials} (O : Order K) {p : ℕ} (P : Prime p) where
       let v = term {K = K} (K .mul (t .mon) (u .mon)) (t .num * u .num % p) in
       let h = norm O p (times t g ++ mul f (u ∷ g)) in
       let n : Normal O p (v ∷ h) = subst (Normal O p) (lead-mul t u f g nf ng) (norm-normal O (prime-positive P) (mul (t ∷ f) (u ∷ g))) in
-      coef-number v h n
+      lead-nonzero v h n
       (same-trans (same-eq (sym (lead-coef O v h (n .falling .0))))
       (same-trans (same-eq (ap (λ (k : Poly K). coef k (v .mon)) (sym (lead-mul t u f g nf ng))))
       (same-trans (norm-equal O (prime-positive P) (mul (t ∷ f) (u ∷ g)) .equal (v .mon)) e)))
@@ -100,7 +102,8 @@ module _ {K : Monomials} (O : Order K) {p : ℕ} (P : Prime p) where
           (mul-equal O (prime-positive P) (equal-trans (subst (λ h. Equal p h (norm O p d)) e equal-refl) (norm-equal O (prime-positive P) d)) equal-refl .equal (K .mul (t .mon) (u .mon)))
           (subst (λ x. Same p (coef (mul d (u ∷ g)) x) 0) (K .mul-comm (u .mon) (t .mon)) (z .none (t .mon)))))
 
-  pub division-unique : (u : Term K) (g : Poly K) → Normal O p (u ∷ g) → (q r q′ r′ : Poly K) → Equal p (mul q (u ∷ g) ++ r) (mul q′ (u ∷ g) ++ r′) → NoMultiple p (u .mon) r → NoMultiple p (u .mon) r′ → Equal p q q′ × Equal p r r′
+  pub division-unique : (u : Term K) (g : Poly K) → Normal O p (u ∷ g) → (q r q′ r′ : Poly K) → Equal p (mul q (u ∷ g) ++ r) (mul q′ (u ∷ g) ++ r′) →
+      NoMultiple p (u .mon) r → NoMultiple p (u .mon) r′ → Equal p q q′ × Equal p r r′
   division-unique u g ng q r q′ r′ e zr zr′ = (same-q, sum-cancel-left O pos (mul q′ (u ∷ g)) (equal-trans (sum-equal O pos (mul-equal O pos (equal-sym same-q) equal-refl) equal-refl) e))
     where
       pos : 0 < p

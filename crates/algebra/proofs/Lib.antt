@@ -4,6 +4,7 @@ pub mod Scan
 pub mod Residues
 pub mod Primes
 pub mod Totals
+pub mod All
 pub mod NormalForm
 pub mod Ring
 pub mod Sorted
@@ -11,8 +12,8 @@ pub mod Leads
 pub mod Degrees
 pub mod Steps
 pub mod Walk
-pub mod Ends
+pub mod WalkEnds
 pub mod Clauses
 pub mod Exact
 pub mod Coding
-pub mod Verdicts
+pub mod WalkVerdicts

@@ -2,7 +2,6 @@
 --
 --   Small p f                     every number of f is below p
 --   reduced-small                 reduced numbers are below p
---   all-map, all-append           of `All P f`: every monomial of f has the property P
 --   below-trans                   of `Below O m f`: every monomial of f is below m
 --   apart, below-coef             a term below m is not at m; the coefficient at a monomial that all are below is 0
 --   only-here                     of a monomial and itself
@@ -16,13 +15,14 @@
 --   extract                       the normal form of a term above all the rest, and the rest
 use Prim.Native.Nat.{ℕ, zero, suc, _+_, _*_, _%_, _<_}
 use mathlib.Core.Path.{_≡_, refl, sym, _∙_, ap, subst}
-use mathlib.Core.List.{[], _∷_, _++_}
+use mathlib.Core.List.{[], _∷_}
 use native.Mathlib.Nat.{mod-lt}
 use native.Mathlib.Omega.{arith}
 use Rattle.algebra.specs.Residues.{Same}
 use Rattle.algebra.specs.Monomials.{Monomials}
 use Rattle.algebra.specs.Orders.{Order, Tri, below, level, above}
 use Rattle.algebra.specs.Polynomials.{Term, term, Poly, only, coef, Equal, keep, nonzero, placed, insert, sorted, norm, All, Below, Falling, Reduced, Normal}
+use Rattle.algebra.proofs.All.{all-map}
 use Rattle.algebra.proofs.Residues.{same-eq, same-refl, same-sym, same-trans, same-mod, same-add, same-mul, same-cancel, same-below}
 use Rattle.algebra.proofs.Totals.{total, equal-by}
 
@@ -43,17 +43,6 @@ module _ {K : Monomials} {p : ℕ} where
 
   pub equal-trans : {f g h : Poly K} → Equal p f g → Equal p g h → Equal p f h
   equal-trans e d = record { equal = λ m. same-trans (e .equal m) (d .equal m) }
-
--- Properties of every monomial
-
-module _ {K : Monomials} {P Q : K .Mon → Type 0} where
-  pub all-map : ((m : K .Mon) → P m → Q m) → (f : Poly K) → All P f → All Q f
-  all-map h [] a = tt
-  all-map h (u ∷ f) a = (h (u .mon) (a .0), all-map h f (a .1))
-
-pub all-append : {K : Monomials} (P : K .Mon → Type 0) (f g : Poly K) → All P f → All P g → All P (f ++ g)
-all-append P [] g a b = b
-all-append P (u ∷ f) g a b = (a .0, all-append P f g (a .1) b)
 
 -- Monomials below a given one
 
@@ -78,7 +67,8 @@ only-here m (no n) c = absurd (n refl)
 
 module _ {K : Monomials} (O : Order K) (p : ℕ) (pos : 0 < p) where
   module _ (P : K .Mon → Type 0) where
-    placed-all : (m : K .Mon) (c : ℕ) (u : Term K) (f rest : Poly K) (t : Tri (O .less m (u .mon)) (m ≡ u .mon) (O .less (u .mon) m)) → P m → All P (u ∷ f) → All P rest → All P (placed O p m c u f rest t)
+    placed-all : (m : K .Mon) (c : ℕ) (u : Term K) (f rest : Poly K) (t : Tri (O .less m (u .mon)) (m ≡ u .mon) (O .less (u .mon) m)) → P m →
+        All P (u ∷ f) → All P rest → All P (placed O p m c u f rest t)
     placed-all m c u f rest (below h) k b r = (b .0, r)
     placed-all m c u f rest (level h) k b r = (k, b .1)
     placed-all m c u f rest (above h) k b r = (k, (b .0, b .1))
@@ -91,7 +81,8 @@ module _ {K : Monomials} (O : Order K) (p : ℕ) (pos : 0 < p) where
     sorted-all [] b = tt
     sorted-all (u ∷ f) b = insert-all (u .mon) (u .num) (sorted O p f) (b .0) (sorted-all f (b .1))
 
-  placed-falling : (m : K .Mon) (c : ℕ) (u : Term K) (f : Poly K) (t : Tri (O .less m (u .mon)) (m ≡ u .mon) (O .less (u .mon) m)) → Falling O (u ∷ f) → Falling O (insert O p m c f) → Falling O (placed O p m c u f (insert O p m c f) t)
+  placed-falling : (m : K .Mon) (c : ℕ) (u : Term K) (f : Poly K) (t : Tri (O .less m (u .mon)) (m ≡ u .mon) (O .less (u .mon) m)) →
+      Falling O (u ∷ f) → Falling O (insert O p m c f) → Falling O (placed O p m c u f (insert O p m c f) t)
   placed-falling m c u f (below h) b r = (insert-all (λ n. O .less n (u .mon)) m c f h (b .0), r)
   placed-falling m c u f (level e) b r = (subst (λ x. Below O x f) (sym e) (b .0), b .1)
   placed-falling m c u f (above h) b r = ((h, below-trans O (u .mon) m h f (b .0)), b)
@@ -100,7 +91,8 @@ module _ {K : Monomials} (O : Order K) (p : ℕ) (pos : 0 < p) where
   insert-falling m c [] b = (tt, tt)
   insert-falling m c (u ∷ f) b = placed-falling m c u f (O .compare m (u .mon)) b (insert-falling m c f (b .1))
 
-  placed-small : (m : K .Mon) (c : ℕ) (u : Term K) (f rest : Poly K) (t : Tri (O .less m (u .mon)) (m ≡ u .mon) (O .less (u .mon) m)) → Small p (u ∷ f) → Small p rest → Small p (placed O p m c u f rest t)
+  placed-small : (m : K .Mon) (c : ℕ) (u : Term K) (f rest : Poly K) (t : Tri (O .less m (u .mon)) (m ≡ u .mon) (O .less (u .mon) m)) →
+      Small p (u ∷ f) → Small p rest → Small p (placed O p m c u f rest t)
   placed-small m c u f rest (below h) s r = (s .0, r)
   placed-small m c u f rest (level e) s r = (mod-lt (c + u .num) pos, s .1)
   placed-small m c u f rest (above h) s r = (mod-lt c pos, s)
@@ -110,7 +102,8 @@ module _ {K : Monomials} (O : Order K) (p : ℕ) (pos : 0 < p) where
   insert-small m c (u ∷ f) s = placed-small m c u f _ (O .compare m (u .mon)) s (insert-small m c f (s .1))
 
   module _ (φ : K .Mon → ℕ) where
-    placed-total : (m : K .Mon) (c : ℕ) (u : Term K) (f rest : Poly K) (t : Tri (O .less m (u .mon)) (m ≡ u .mon) (O .less (u .mon) m)) → Same p (total φ rest) (c * φ m + total φ f) → Same p (total φ (placed O p m c u f rest t)) (c * φ m + total φ (u ∷ f))
+    placed-total : (m : K .Mon) (c : ℕ) (u : Term K) (f rest : Poly K) (t : Tri (O .less m (u .mon)) (m ≡ u .mon) (O .less (u .mon) m)) →
+        Same p (total φ rest) (c * φ m + total φ f) → Same p (total φ (placed O p m c u f rest t)) (c * φ m + total φ (u ∷ f))
     placed-total m c u f rest (below h) r = same-trans (same-add same-refl r) (same-eq (omega arith))
     placed-total m c u f rest (level e) r =
         same-trans
@@ -205,7 +198,8 @@ module _ {K : Monomials} (O : Order K) {p : ℕ} where
   normal-unique [] [] nf ng e = refl
   normal-unique [] (v ∷ g) nf ng e = absurd (not-below v g [] (ng .falling .0) (ng .reduced .0) (ng .reduced .1) tt (equal-sym e))
   normal-unique (u ∷ f) [] nf ng e = absurd (not-below u f [] (nf .falling .0) (nf .reduced .0) (nf .reduced .1) tt e)
-  normal-unique (u ∷ f) (v ∷ g) nf ng e = go (O .compare (u .mon) (v .mon)) (λ d. normal-unique f g (record { falling = nf .falling .1; reduced = nf .reduced .2 }) (record { falling = ng .falling .1; reduced = ng .reduced .2 }) d)
+  normal-unique (u ∷ f) (v ∷ g) nf ng e = go (O .compare (u .mon) (v .mon))
+      (λ d. normal-unique f g (record { falling = nf .falling .1; reduced = nf .reduced .2 }) (record { falling = ng .falling .1; reduced = ng .reduced .2 }) d)
     where
       go : Tri (O .less (u .mon) (v .mon)) (u .mon ≡ v .mon) (O .less (v .mon) (u .mon)) → (Equal p f g → f ≡ g) → u ∷ f ≡ v ∷ g
       go (below h) rest =
@@ -219,7 +213,8 @@ module _ {K : Monomials} (O : Order K) {p : ℕ} where
           (h, below-trans O (v .mon) (u .mon) h g (ng .falling .0))
           e)
       go (level d) rest =
-          let c : u .num ≡ v .num = same-below (nf .reduced .1) (ng .reduced .1) (same-trans (same-eq (sym (lead-coef O u f (nf .falling .0)))) (same-trans (e .equal (u .mon)) (same-eq (ap (coef (v ∷ g)) d ∙ lead-coef O v g (ng .falling .0))))) in
+          let c : u .num ≡ v .num = same-below (nf .reduced .1) (ng .reduced .1)
+          (same-trans (same-eq (sym (lead-coef O u f (nf .falling .0)))) (same-trans (e .equal (u .mon)) (same-eq (ap (coef (v ∷ g)) d ∙ lead-coef O v g (ng .falling .0))))) in
           let r : f ≡ g = rest (same-tails u v f g d c e) in
           λ i. record { mon = d i; num = c i } ∷ r i
 

@@ -4,7 +4,7 @@
 --   below-not-zero                   a number from 1 to p − 1 is not the same as 0
 --   one-not-zero                     1 is not the same as 0
 --   inverse-law                      a · inverse p a is the same as 1, where a is not the same as 0
---   inverse-below, inverse-positive  inverse p a is 1 to p − 1 there
+--   inverse-below  inverse p a is 1 to p − 1 there
 --   mod-cancel                       a factor that is not the same as 0 may go on both sides
 --   euclid                           a product that is the same as 0 has a factor that is
 --   inverse-unique                   no other number below p times a is the same as 1
@@ -17,10 +17,10 @@ use native.Mathlib.Decide.{ℕ-discrete, decLt}
 use native.Mathlib.Omega.{arith}
 use lib.Dec.{eqb, leb}
 use borrow.Author.Tests.{leb-true, le-leb, eqb-true, eqb-false, eq-eqb, ne-eqb}
-use Rattle.algebra.specs.Residues.{Same, Prime, isPrime, inverse, divides, first}
+use Rattle.algebra.specs.Residues.{Same, Prime, isPrime, inverse, hasDivisor, first}
 use Rattle.algebra.proofs.Tests.{both-true}
 use Rattle.algebra.proofs.Residues.{same-eq, same-refl, same-sym, same-trans, same-mod, same-multiple, same-mul, same-mul-left, same-cancel, same-below, same-decided}
-use Rattle.algebra.proofs.Scan.{first-from, first-hit, first-miss, first-unique}
+use Rattle.algebra.proofs.Scan.{first-hit, first-miss, first-unique}
 
 -- The test
 
@@ -28,7 +28,7 @@ pub prime-of-test : {p : ℕ} → isPrime p ≡ true → Prime p
 unfolding isPrime
 prime-of-test {p} e = record { two = two; only = only }
   where
-    parts : (leb 2 p ≡ true) × (eqb (first (divides p) 2 (p - 2)) p ≡ true)
+    parts : (leb 2 p ≡ true) × (eqb (first (hasDivisor p) 2 (p - 2)) p ≡ true)
     parts = both-true _ _ e
 
     two : 2 ≤ p
@@ -36,7 +36,7 @@ prime-of-test {p} e = record { two = two; only = only }
 
     only : (d : ℕ) → d ∣ p → (d ≡ 1) ⊎ (d ≡ p)
     only d h =
-        let f : first (divides p) 2 (p - 2) ≡ p = eqb-true _ _ (parts .1) in
+        let f : first (hasDivisor p) 2 (p - 2) ≡ p = eqb-true _ _ (parts .1) in
         let w : 2 ≤ p = two in
         let l : 0 < d = pos-of-dvd-of-pos h (omega arith) in
         let u : d ≤ p = le-of-dvd (omega arith) h in
@@ -45,15 +45,15 @@ prime-of-test {p} e = record { two = two; only = only }
           | no k ↦
               elim (ℕ-discrete d p) [
                 | yes m ↦ inr m
-                | no m ↦ absurd (eqb-false _ _ (first-miss (divides p) 2 (p - 2) {j = d} (omega arith) (omega arith)) (mod-eq-zero-of-dvd d h))
+                | no m ↦ absurd (eqb-false _ _ (first-miss (hasDivisor p) 2 (p - 2) {j = d} (omega arith) (omega arith)) (mod-eq-zero-of-dvd d h))
               ]
         ]
 
 pub test-of-prime : {p : ℕ} → Prime p → isPrime p ≡ true
 unfolding isPrime
-test-of-prime {p} P = rw (le-leb 2 p (P .two)) (eq-eqb _ _ (first-unique (divides p) 2 (p - 2) p (P .two) (omega arith) fails (inr (let w : 2 ≤ p = P .two in omega arith))))
+test-of-prime {p} P = rw (le-leb 2 p (P .two)) (eq-eqb _ _ (first-unique (hasDivisor p) 2 (p - 2) p (P .two) (omega arith) fails (inr (let w : 2 ≤ p = P .two in omega arith))))
   where
-    fails : (j : ℕ) → 2 ≤ j → j < p → divides p j ≡ false
+    fails : (j : ℕ) → 2 ≤ j → j < p → hasDivisor p j ≡ false
     fails j h k = ne-eqb _ _ (λ e. elim (P .only j (dvd-of-mod-eq-zero j e)) [ inl f ↦ omega arith | inr f ↦ omega arith ])
 
 pub below-not-zero : {p a : ℕ} → 0 < a → a < p → Same p a 0 → ⊥
@@ -104,10 +104,6 @@ module _ {p : ℕ} (P : Prime p) where
   -- the test of which the inverse is the first that passes
   abbrev hits : ℕ → ℕ → Bool
   hits a x = eqb (a * x % p) 1
-
-  pub inverse-positive : (a : ℕ) → 0 < inverse p a
-  unfolding inverse
-  inverse-positive a = first-from (hits a) 1 (p - 1)
 
   pub inverse-below : (a : ℕ) → (Same p a 0 → ⊥) → inverse p a < p
   unfolding inverse

@@ -4,18 +4,16 @@
 --   mul-equal, mul-comm, mul-assoc, mul-sum, sum-mul, mul-one    of the product
 --   negated-equal, mul-negated, total-negated, coef-negated    of the negative
 --   difference-zero               polynomials whose difference is zero are equal
---   move-over                     what is added on one side may be subtracted on the other
 use Prim.Native.Nat.{ℕ, _-_, _*_, _<_}
 use mathlib.Core.Path.{_≡_, sym, _∙_, ap}
 use mathlib.Core.List.{[], _∷_, _++_}
-use native.Mathlib.Nat.{zero-add}
 use native.Mathlib.Omega.{arith}
 use Rattle.algebra.specs.Monomials.{Monomials}
 use Rattle.algebra.specs.Orders.{Order}
 use Rattle.algebra.specs.Polynomials.{term, Poly, coef, Equal, mul, negated}
-use Rattle.algebra.proofs.Residues.{same-eq, same-refl, same-trans, same-add, same-mul-left, same-cancel, same-minus}
+use Rattle.algebra.proofs.Residues.{same-eq, same-trans, same-add, same-mul-left, same-cancel, same-minus}
 use Rattle.algebra.proofs.Totals.{total, at, coef-total, total-append, total-ext, total-same, total-plus, total-mul, total-swap, equal-by}
-use Rattle.algebra.proofs.NormalForm.{equal-refl, equal-sym, equal-trans, equal-total}
+use Rattle.algebra.proofs.NormalForm.{equal-sym, equal-trans, equal-total}
 
 pub total-negated : {K : Monomials} (p : ℕ) (φ : K .Mon → ℕ) (f : Poly K) → total φ (negated p f) ≡ (p - 1) * total φ f
 total-negated p φ [] = omega arith
@@ -134,11 +132,3 @@ module _ {K : Monomials} (O : Order K) {p : ℕ} (pos : 0 < p) where
 
   pub difference-zero : (f g : Poly K) → Equal p (f ++ negated p g) [] → Equal p f g
   difference-zero f g e = sum-cancel (negated p g) (equal-trans e (equal-sym (sum-negated pos g)))
-
-  pub move-over : {f : Poly K} (g h : Poly K) → Equal p f (g ++ h) → Equal p (f ++ negated p g) h
-  move-over {f} g h e =
-      equal-trans (sum-equal e equal-refl)
-      (equal-by
-      (λ φ. same-trans
-      (same-eq (omega (arith, total-append φ (g ++ h) (negated p g), total-append φ g h, total-negated p φ g)))
-      (same-trans (same-add (same-minus (total φ g) pos) same-refl) (same-eq (zero-add (total φ h))))))

@@ -1,6 +1,6 @@
 -- Laws of `first t i n`, the first of the n numbers i, i + 1, .. that passes the test t, or i + n.
 --
---   first-none, first-here, first-next    one step: no number is left; i passes; i fails
+--   first-here, first-next                one step: i passes; i fails
 --   first-stop, first-up                  one step of a loop up to n: i passes; i fails
 --   first-down                            one step of a loop from n down: one number more in front
 --   first-from, first-within              it is at least i and at most i + n
@@ -19,9 +19,6 @@ use Rattle.algebra.specs.Residues.{first, pick}
 use Rattle.algebra.proofs.Tests.{never}
 
 -- One step
-
-pub first-none : (t : ℕ → Bool) (i : ℕ) → first t i 0 ≡ i
-first-none t i = refl
 
 pub first-here : (t : ℕ → Bool) (i n : ℕ) → t i ≡ true → first t i (suc n) ≡ i
 first-here t i n h = ap (λ b. pick b i (first t (suc i) n)) h

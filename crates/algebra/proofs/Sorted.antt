@@ -2,8 +2,7 @@
 --
 --   count-append, count-negated, below-count, head-count    of `count`
 --   all-count, count-all       a property of every monomial, monomial by monomial that stands in the list
---   Alike p f g                equal polynomials in which the same monomials stand
---   alike-refl, alike-sym, alike-trans, alike-append, alike-negated, alike-all    of `Alike`
+--   alike-refl, alike-sym, alike-trans, alike-append, alike-all    of `Alike`
 --   sorted-alike               f and its sorted list are alike
 --   falling-unique             falling lists with numbers below p that are alike are the same list
 --   sorted-same, sorted-self   alike polynomials have one sorted list; a falling list with numbers below p is its own
@@ -14,11 +13,11 @@ use mathlib.Core.List.{[], _∷_, _++_}
 use native.Mathlib.Omega.{arith}
 use Rattle.algebra.specs.Monomials.{Monomials}
 use Rattle.algebra.specs.Orders.{Order, Tri, below, level, above}
-use Rattle.algebra.specs.Polynomials.{Term, term, Poly, only, coef, count, Equal, negated, placed, insert, sorted, All, Below, Falling}
+use Rattle.algebra.specs.Polynomials.{Term, term, Poly, only, coef, count, Alike, negated, placed, insert, sorted, All, Below, Falling}
 use Rattle.algebra.proofs.Residues.{same-eq, same-trans, same-below}
 use Rattle.algebra.proofs.Totals.{equal-by}
 use Rattle.algebra.proofs.NormalForm.{Small, equal-refl, equal-sym, equal-trans, below-trans, apart, only-here, lead-coef, same-tails, sorted-falling, sorted-small, sorted-all, sorted-total}
-use Rattle.algebra.proofs.Ring.{sum-equal, negated-equal}
+use Rattle.algebra.proofs.Ring.{sum-equal}
 
 -- the sums of positive numbers
 either : (a b c d : ℕ) → (0 < a → 0 < c) → (0 < b → 0 < d) → 0 < a + b → 0 < c + d
@@ -57,11 +56,6 @@ module _ {K : Monomials} where
       go (yes e) k rest = subst P e (a .0)
       go (no n) k rest = rest (omega arith)
 
-  pub record Alike (p : ℕ) (f g : Poly K) : Type 0 where
-    pub equal : Equal p f g
-    pub there : (m : K .Mon) → 0 < count m f → 0 < count m g
-    pub back : (m : K .Mon) → 0 < count m g → 0 < count m f
-
 module _ {K : Monomials} {p : ℕ} where
   pub alike-refl : {f : Poly K} → Alike p f f
   alike-refl = record { equal = equal-refl; there = λ m h. h; back = λ m h. h }
@@ -88,20 +82,13 @@ module _ {K : Monomials} {p : ℕ} where
         back = λ m h. subst (λ n. 0 < n) (sym (count-append m f g)) (either _ _ _ _ (a .back m) (b .back m) (subst (λ n. 0 < n) (count-append m f′ g′) h));
       }
 
-  pub alike-negated : Order K → 0 < p → {f g : Poly K} → Alike p f g → Alike p (negated p f) (negated p g)
-  alike-negated O pos {f} {g} a =
-      record {
-        equal = negated-equal O pos (a .equal);
-        there = λ m h. subst (λ n. 0 < n) (sym (count-negated p m g)) (a .there m (subst (λ n. 0 < n) (count-negated p m f) h));
-        back = λ m h. subst (λ n. 0 < n) (sym (count-negated p m f)) (a .back m (subst (λ n. 0 < n) (count-negated p m g) h));
-      }
-
 module _ {K : Monomials} (O : Order K) {p : ℕ} (pos : 0 < p) where
   -- a term more, where it is put
   abbrev Joins : K .Mon → K .Mon → Poly K → Poly K → Type 0
   Joins x m f g = (0 < count x g → 0 < only (K .decide m x) 1 + count x f) × (0 < only (K .decide m x) 1 + count x f → 0 < count x g)
 
-  placed-joins : (x m : K .Mon) (c : ℕ) (u : Term K) (f rest : Poly K) (t : Tri (O .less m (u .mon)) (m ≡ u .mon) (O .less (u .mon) m)) → Joins x m f rest → Joins x m (u ∷ f) (placed O p m c u f rest t)
+  placed-joins : (x m : K .Mon) (c : ℕ) (u : Term K) (f rest : Poly K) (t : Tri (O .less m (u .mon)) (m ≡ u .mon) (O .less (u .mon) m)) →
+      Joins x m f rest → Joins x m (u ∷ f) (placed O p m c u f rest t)
   placed-joins x m c u f rest (below h) r = (
     λ k. let s : 0 < only (K .decide (u .mon) x) 1 + (only (K .decide m x) 1 + count x f) = either (only (K .decide (u .mon) x) 1) (count x rest) _ _ (λ l. l) (r .0) k in omega arith,
     λ k. either (only (K .decide (u .mon) x) 1) (only (K .decide m x) 1 + count x f) _ _ (λ l. l) (r .1) (omega arith),
@@ -157,7 +144,8 @@ module _ {K : Monomials} (O : Order K) {p : ℕ} (pos : 0 < p) where
       go (below h) rest = absurd (stands-not v (u ∷ f) g (h, below-trans O (u .mon) (v .mon) h f (ff .0)) a)
       go (above h) rest = absurd (stands-not u (v ∷ g) f (h, below-trans O (v .mon) (u .mon) h g (fg .0)) (alike-sym a))
       go (level d) rest =
-          let c : u .num ≡ v .num = same-below (sf .0) (sg .0) (same-trans (same-eq (sym (lead-coef O u f (ff .0)))) (same-trans (a .equal .equal (u .mon)) (same-eq (ap (coef (v ∷ g)) d ∙ lead-coef O v g (fg .0))))) in
+          let c : u .num ≡ v .num = same-below (sf .0) (sg .0)
+          (same-trans (same-eq (sym (lead-coef O u f (ff .0)))) (same-trans (a .equal .equal (u .mon)) (same-eq (ap (coef (v ∷ g)) d ∙ lead-coef O v g (fg .0))))) in
           let r : f ≡ g = rest (record {
             equal = same-tails O u v f g d c (a .equal);
             there = rest-stands u v f g d (ff .0) (a .there);
@@ -179,6 +167,3 @@ module _ {K : Monomials} (O : Order K) {p : ℕ} (pos : 0 < p) where
       (sorted-all O p pos (λ n. O .less n m) g b, sorted-falling O p pos g)
       (sorted-small O p pos f) (h, sorted-small O p pos g)
       (alike-trans (sorted-alike f) (alike-trans a (alike-append O pos {f = term m c ∷ []} alike-refl (alike-sym (sorted-alike g)))))
-
-pub negated-all : {K : Monomials} (P : K .Mon → Type 0) (p : ℕ) (f : Poly K) → All P f → All P (negated p f)
-negated-all P p f a = count-all P (negated p f) (λ m h. all-count P f a m (subst (λ n. 0 < n) (count-negated p m f) h))

@@ -4,7 +4,7 @@
 --   total-append, total-times, total-mul    of a sum, of a term times a polynomial, of a product
 --   total-plus, total-scale, total-zero, total-ext, total-swap    of sums of functions; two sums change places
 --   total-same                   the same modulo p where the functions are
---   at K m, coef-total            a coefficient is a total
+--   at K m, coef-total           a coefficient is a total
 --   coef-append                  the coefficients of a sum are the sums
 --   equal-by                     polynomials with the same totals are equal
 use Prim.Native.Nat.{ℕ, _+_, _*_}

@@ -1,6 +1,6 @@
 -- What a walk of division has written, at every step.
 --
---   quotient-number       the quotient term's number times the lead's number is the number divided
+--   quotient-coef       the quotient term's number times the lead's number is the number divided
 --   step-equation         taking one quotient multiple away
 --   Divides f w           after the walk w down f: f ≡ q · g + (r + what is left), no term of r divisible by g's lead, q and r normal,
 --                         what is left falls
@@ -18,9 +18,10 @@ use Rattle.algebra.specs.Walk.{Judges, Walked, unfinished, stopped, toQu
 use Rattle.algebra.proofs.Residues.{same-eq, same-refl, same-sym, same-trans, same-mod, same-add, same-mul, same-mul-left, same-below, same-minus}
 use Rattle.algebra.proofs.Primes.{inverse-law}
 use Rattle.algebra.proofs.Totals.{total, total-append, equal-by}
-use Rattle.algebra.proofs.NormalForm.{Small, all-append, below-trans, sorted-falling, sorted-small, sorted-all, sorted-total, equal-refl, equal-sym, equal-trans, equal-total}
+use Rattle.algebra.proofs.NormalForm.{Small, below-trans, sorted-falling, sorted-small, sorted-all, sorted-total, equal-refl, equal-sym, equal-trans, equal-total}
+use Rattle.algebra.proofs.All.{all-append}
 use Rattle.algebra.proofs.Ring.{sum-equal, sum-assoc, total-negated}
-use Rattle.algebra.proofs.Leads.{prime-positive, coef-number, times-below}
+use Rattle.algebra.proofs.Leads.{prime-positive, lead-nonzero, times-below}
 use Rattle.algebra.proofs.Steps.{Steps, walk-keeps}
 
 pub negated-all : {K : Monomials} (p : ℕ) (Q : K .Mon → Type 0) (f : Poly K) → All Q f → All Q (negated p f)
@@ -40,11 +41,11 @@ module _ {K : Monomials} (O : Order K) {p : ℕ} (P : Prime p) (lead : Term K) (
   pos : 0 < p
   pos = prime-positive P
 
-  pub quotient-number : (c : ℕ) → Same p ((c * inverse p (lead .num) % p) * lead .num) c
-  quotient-number c =
+  pub quotient-coef : (c : ℕ) → Same p ((c * inverse p (lead .num) % p) * lead .num) c
+  quotient-coef c =
       same-trans (same-mul (same-mod (c * inverse p (lead .num))) same-refl)
       (same-trans (same-eq (omega arith))
-      (same-trans (same-mul-left c (inverse-law P (lead .num) (coef-number lead later ng))) (same-eq (omega arith))))
+      (same-trans (same-mul-left c (inverse-law P (lead .num) (lead-nonzero lead later ng))) (same-eq (omega arith))))
 
   pub step-equation : (u t : Term K) (f : Poly K) → Same p (t .num * lead .num) (u .num) → K .mul (t .mon) (lead .mon) ≡ u .mon → Equal p (u ∷ f) (times t (lead ∷ later) ++ remains O p later t f)
   step-equation u t f c m =
@@ -72,7 +73,7 @@ module _ {K : Monomials} (O : Order K) {p : ℕ} (P : Prime p) (lead : Term K) (
   quotient-positive c h k =
       pos-of-ne-zero
       (λ e.
-      let z : Same p c 0 = same-trans (same-sym (quotient-number c)) (same-eq (ap (λ (x : ℕ). x * lead .num) e ∙ zero-mul (lead .num))) in
+      let z : Same p c 0 = same-trans (same-sym (quotient-coef c)) (same-eq (ap (λ (x : ℕ). x * lead .num) e ∙ zero-mul (lead .num))) in
       let d : c ≡ 0 = same-below k pos z in
       omega arith)
 
@@ -109,12 +110,13 @@ module _ {K : Monomials} (O : Order K) {p : ℕ} (P : Prime p) (lead : Term K) (
       go (level e) = absurd (O .irreflexive (K .mul (lead .mon) m) (subst (λ x. O .less (K .mul (lead .mon) x) (K .mul (lead .mon) m)) e h))
       go (above k) = absurd (O .irreflexive _ (O .transitive _ _ _ h (O .grows (lead .mon) m q k)))
 
-  divided : (u t : Term K) (f : Poly K) (w : Walked K) → Falling O (u ∷ f) → 0 < u .num → u .num < p → K .mul (lead .mon) (t .mon) ≡ u .mon → t .num ≡ u .num * inverse p (lead .num) % p → Divides O p lead later (remains O p later t f) w → Divides O p lead later (u ∷ f) (toQuotient 0 t (u ∷ f) w)
+  divided : (u t : Term K) (f : Poly K) (w : Walked K) → Falling O (u ∷ f) → 0 < u .num → u .num < p → K .mul (lead .mon) (t .mon) ≡ u .mon →
+      t .num ≡ u .num * inverse p (lead .num) % p → Divides O p lead later (remains O p later t f) w → Divides O p lead later (u ∷ f) (toQuotient 0 t (u ∷ f) w)
   divided u t f w fall h k e c d =
       let e′ : K .mul (t .mon) (lead .mon) ≡ u .mon = K .mul-comm (t .mon) (lead .mon) ∙ e in
       record {
         equation =
-            equal-trans (step-equation u t f (subst (λ x. Same p (x * lead .num) (u .num)) (sym c) (quotient-number (u .num))) e′)
+            equal-trans (step-equation u t f (subst (λ x. Same p (x * lead .num) (u .num)) (sym c) (quotient-coef (u .num))) e′)
             (equal-trans (sum-equal O pos (equal-refl {f = times t (lead ∷ later)}) (d .equation))
             (equal-sym (sum-assoc (times t (lead ∷ later)) (mul (w .quotient) (lead ∷ later)) (w .remainder ++ w .left))));
         none = d .none;
@@ -144,7 +146,8 @@ module _ {K : Monomials} (O : Order K) {p : ℕ} (P : Prime p) (lead : Term K) (
   undivided-coef u n q (yes e) = absurd (n (q, sym e))
   undivided-coef u n q (no k) = refl
 
-  moved : (u : Term K) (f : Poly K) (w : Walked K) → Falling O (u ∷ f) → 0 < u .num → u .num < p → (((q : K .Mon) × (K .mul (lead .mon) q ≡ u .mon)) → ⊥) → Divides O p lead later f w → Divides O p lead later (u ∷ f) (toRemainder 0 u (u ∷ f) w)
+  moved : (u : Term K) (f : Poly K) (w : Walked K) → Falling O (u ∷ f) → 0 < u .num → u .num < p →
+      (((q : K .Mon) × (K .mul (lead .mon) q ≡ u .mon)) → ⊥) → Divides O p lead later f w → Divides O p lead later (u ∷ f) (toRemainder 0 u (u ∷ f) w)
   moved u f w fall h k n d =
       record {
         equation =

@@ -65,10 +65,10 @@ module _ (K : Monomials) where
   pair-decide a b (yes e) (no n) = no (λ g. n (ap (λ x. x .1) g))
   pair-decide a b (no n) f = no (λ g. n (ap (λ x. x .0) g))
 
-  abbrev pub times : ℕ × K .Mon → ℕ × K .Mon → ℕ × K .Mon
-  times a b = (a .0 + b .0, K .mul (a .1) (b .1))
+  abbrev pub pairProduct : ℕ × K .Mon → ℕ × K .Mon → ℕ × K .Mon
+  pairProduct a b = (a .0 + b .0, K .mul (a .1) (b .1))
 
-  abbrev pub pair-quotient : (a b : ℕ × K .Mon) → Dec (a .0 ≤ b .0) → Dec ((q : K .Mon) × (K .mul (a .1) q ≡ b .1)) → Dec ((q : ℕ × K .Mon) × (times a q ≡ b))
+  abbrev pub pair-quotient : (a b : ℕ × K .Mon) → Dec (a .0 ≤ b .0) → Dec ((q : K .Mon) × (K .mul (a .1) q ≡ b .1)) → Dec ((q : ℕ × K .Mon) × (pairProduct a q ≡ b))
   pair-quotient a b (yes h) (yes r) =
       let e : a .0 + (b .0 - a .0) ≡ b .0 = omega arith in
       yes ((b .0 - a .0, r .0), λ i. (e i, r .1 i))
@@ -85,7 +85,7 @@ withLetter K =
     record {
       Mon = ℕ × K .Mon;
       one = (0, K .one);
-      mul = times K;
+      mul = pairProduct K;
       one-mul = λ a i. (zero-add (a .0) i, K .one-mul (a .1) i);
       mul-comm = λ a b i. (add-comm (a .0) (b .0) i, K .mul-comm (a .1) (b .1) i);
       mul-assoc = λ a b c i. (add-assoc (a .0) (b .0) (c .0) i, K .mul-assoc (a .1) (b .1) (c .1) i);

@@ -1,21 +1,25 @@
 -- Polynomials over the whole numbers modulo p: finite lists of terms, in any order, repeats allowed, numbers not reduced.
 -- Two lists are the same polynomial when at every monomial their coefficients are the same modulo p.
 --
---   Term K, Poly K    a number times a monomial; a list of such terms, read as their sum
---   coef f m          the coefficient of f at m: the sum of the numbers of the terms there
---   count m f         how many terms of f stand at m, whatever their numbers
---   Equal p f g       at every monomial the coefficients of f and g are the same modulo p
---   f ++ g            the sum
---   times t f         the term t times f
---   mul f g           the product: every term of f times every term of g
---   negated p f       −f: every number times p − 1, which is −1 modulo p
---   largest w f       the largest w of a monomial of f, 0 where f has no term: M(f, v) for w the exponent of v
---   sorted O p f      f with one term for each monomial that stands in it, the greatest first, numbers below p, perhaps 0
---   norm O p f        the same without the terms whose number is 0: the normal form
---   NoMultiple p m f  no term of f is divisible by m: the coefficient of f at every multiple of m is 0 modulo p
---   Normal O p f      f is its own normal form: monomials fall, numbers are 1 to p − 1
+--   Term K, Poly K          a number times a monomial; a list of such terms, read as their sum
+--   coef f m                the coefficient of f at m: the sum of the numbers of the terms there
+--   count m f               how many terms of f stand at m, whatever their numbers
+--   Equal p f g             at every monomial the coefficients of f and g are the same modulo p
+--   f ++ g                  the sum
+--   times t f               the term t times f
+--   mul f g                 the product: every term of f times every term of g
+--   negated p f             −f: every number times p − 1, which is −1 modulo p
+--   signed p minus f        f, or −f
+--   signedCoef p minus c    the coefficient c, or −c, reduced
+--   largest w f             the largest w of a monomial of f, 0 where f has no term: M(f, v) for w the exponent of v
+--   sorted O p f            f with one term for each monomial that stands in it, the greatest first, numbers below p, perhaps 0
+--   norm O p f              the same without the terms whose number is 0: the normal form
+--   Alike p f g             equal polynomials in which the same monomials stand
+--   NoMultiple p m f        no term of f is divisible by m: the coefficient of f at every multiple of m is 0 modulo p
+--   Normal O p f            f is its own normal form: monomials fall, numbers are 1 to p − 1
 use Prim.Native.Nat.{ℕ, zero, suc, _+_, _-_, _*_, _%_, _<_, max}
 use mathlib.Core.Path.{_≡_}
+use mathlib.Core.Bool.{Bool, true, false}
 use mathlib.Core.List.{List, [], _∷_, _++_}
 use Rattle.algebra.specs.Residues.{Same}
 use Rattle.algebra.specs.Monomials.{Monomials}
@@ -47,6 +51,11 @@ count {K} m (u ∷ f) = only (K .decide (u .mon) m) 1 + count m f
 pub record Equal {K : Monomials} (p : ℕ) (f g : Poly K) : Type 0 where
   pub equal : (m : K .Mon) → Same p (coef f m) (coef g m)
 
+pub record Alike {K : Monomials} (p : ℕ) (f g : Poly K) : Type 0 where
+  pub equal : Equal p f g
+  pub there : (m : K .Mon) → 0 < count m f → 0 < count m g
+  pub back : (m : K .Mon) → 0 < count m g → 0 < count m f
+
 abbrev pub times : {K : Monomials} → Term K → Poly K → Poly K
 times t [] = []
 times {K} t (u ∷ f) = term (K .mul (t .mon) (u .mon)) (t .num * u .num) ∷ times t f
@@ -58,6 +67,14 @@ mul (t ∷ f) g = times t g ++ mul f g
 abbrev pub negated : {K : Monomials} → ℕ → Poly K → Poly K
 negated p [] = []
 negated p (u ∷ f) = term (u .mon) ((p - 1) * u .num) ∷ negated p f
+
+abbrev pub signed : {K : Monomials} → ℕ → Bool → Poly K → Poly K
+signed p true f = negated p f
+signed p false f = f
+
+abbrev pub signedCoef : ℕ → Bool → ℕ → ℕ
+signedCoef p true c = (p - c) % p
+signedCoef p false c = c
 
 abbrev pub largest : {K : Monomials} → (K .Mon → ℕ) → Poly K → ℕ
 largest w [] = 0

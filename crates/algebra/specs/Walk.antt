@@ -3,6 +3,7 @@
 --   Judges          what stops a walk: a reply for the next quotient term, and one for the next remainder term, from the number
 --                   of those written so far; 0 lets the term pass
 --   Walked          how a walk ended: its reply, the terms written, and what was left
+--   joined q r w    the walk w with the terms of q and r written before
 --   walk .. n i j f the walk of at most n steps down f, falling, with i quotient and j remainder terms written before
 --
 -- Replies: 0 where nothing is left, a judge's where it stopped the walk, `unfinished` where n steps were not enough.
@@ -30,6 +31,10 @@ pub record Walked (K : Monomials) : Type 0 where
 -- a walk that ends here, with nothing more written
 abbrev pub stopped : {K : Monomials} → ℕ → Poly K → Walked K
 stopped r f = record { reply = r; quotient = []; remainder = []; left = f }
+
+-- the terms of q and r were written before
+abbrev pub joined : {K : Monomials} → Poly K → Poly K → Walked K → Walked K
+joined q r w = record { reply = w .reply; quotient = q ++ w .quotient; remainder = r ++ w .remainder; left = w .left }
 
 -- by a judge's reply: a term goes to the quotient before all that the walk w writes, or the walk stops here
 abbrev pub toQuotient : {K : Monomials} → ℕ → Term K → Poly K → Walked K → Walked K

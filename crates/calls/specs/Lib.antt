@@ -1,3 +1,4 @@
 -- What every call on polynomials shares. Read in this order.
 pub mod Inputs
 pub mod Outcomes
+pub mod Endings

@@ -5,23 +5,21 @@ use Prim.Native.Nat.{ℕ, _<_, _≤_}
 use mathlib.Core.Path.{_≡_, subst}
 use mathlib.Core.Bool.{Bool, true, false}
 use mathlib.Core.List.{[], _∷_}
-use native.Mathlib.Decide.{decLt}
 use native.Mathlib.Omega.{arith}
 use lib.Dec.{ltb}
 use Rattle.algebra.specs.Residues.{pick}
 use Rattle.algebra.specs.Monomials.{Letters, exponent}
-use Rattle.algebra.specs.Orders.{Lex, exponent-adds}
+use Rattle.algebra.specs.Orders.{Lex}
 use Rattle.algebra.specs.Polynomials.{Term, Poly, times, largest, All}
 use Rattle.algebra.specs.Walk.{unfinished}
 use Rattle.algebra.proofs.Degrees.{largest-all}
-use Rattle.algebra.proofs.Ends.{Heights}
+use Rattle.algebra.proofs.WalkEnds.{Heights}
 use Rattle.monomial.specs.Layout.{base, fits, divides}
-use Rattle.monomial.proofs.Fields.{fits-letters, exponent-none}
 use Rattle.monomial.proofs.Laws.{write, fit, coding}
 use Rattle.poly.specs.Profiles.{maxima}
 use Rattle.judges.specs.Judges.{unlessFull}
 use Rattle.judges.specs.Plans.{judgesBy}
-use Rattle.poly.proofs.Maxima.{maxima-exponent}
+use Rattle.poly.proofs.Maxima.{under-maxima-fits}
 use Rattle.judges.proofs.Judging.{by-passes}
 
 -- one of two replies
@@ -43,21 +41,10 @@ module _ (f g : Poly (Letters 4)) (q r : ℕ) where
   remainder-answers false j t e = full-other j r 11 (omega arith) e
 
   -- products with terms of g fit where the one with g's maxima does
-  pub products-fit : (t : Term (Letters 4)) → fit base (Letters 4 .mul (t .mon) (maxima g)) ≡ true → (k : Poly (Letters 4)) → ((v : ℕ) → All (λ m. exponent 4 v m ≤ largest (exponent 4 v) g) k) → All (λ m. fit base m ≡ true) (times t k)
+  pub products-fit : (t : Term (Letters 4)) → fit base (Letters 4 .mul (t .mon) (maxima g)) ≡ true → (k : Poly (Letters 4)) →
+      ((v : ℕ) → All (λ m. exponent 4 v m ≤ largest (exponent 4 v) g) k) → All (λ m. fit base m ≡ true) (times t k)
   products-fit t h [] a = tt
-  products-fit t h (u ∷ k) a = (fits-letters 16 4 (Letters 4 .mul (t .mon) (u .mon)) .1 (λ v. go v (decLt v 4)), products-fit t h k (λ v. a v .1))
-    where
-      go : (v : ℕ) → Dec (v < 4) → exponent 4 v (Letters 4 .mul (t .mon) (u .mon)) ≤ 32767
-      go v (yes b) =
-          omega (
-            arith,
-            exponent-adds 4 v (t .mon) (u .mon),
-            exponent-adds 4 v (t .mon) (maxima g),
-            maxima-exponent g v b,
-            a v .0,
-            fits-letters 16 4 (Letters 4 .mul (t .mon) (maxima g)) .0 h v,
-          )
-      go v (no b) = omega (arith, exponent-none 16 4 v (Letters 4 .mul (t .mon) (u .mon)) (omega arith))
+  products-fit t h (u ∷ k) a = (under-maxima-fits (t .mon) (u .mon) g (λ v. a v .0) h, products-fit t h k (λ v. a v .1))
 
   unfoldable pub heights : (b : Bool) → fit base (maxima f) ≡ true → (lead : Term (Letters 4)) (later : Poly (Letters 4)) → g ≡ lead ∷ later → Heights (Lex 4) later (judgesBy b f g q r)
   heights b ff lead later e =

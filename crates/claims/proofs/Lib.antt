@@ -1,16 +1,14 @@
--- The claims shown.
+-- The claims shown: first what all calls share, then a file for each call.
+pub mod Ring
+pub mod Answered
 pub mod Check
-pub mod Merges
-pub mod SumClaims
-pub mod DifferenceClaims
-pub mod Multiplying
-pub mod ProductClaims
-pub mod Heights
-pub mod Verdicts
-pub mod TestClaims
-pub mod DivisionClaims
-pub mod Sheet
-pub mod Demand1
-pub mod Demand2
 pub mod Single
-pub mod Demand3
+pub mod Sums
+pub mod Difference
+pub mod Product
+pub mod Heights
+pub mod Walks
+pub mod Division
+pub mod DivideTest
+pub mod Returned
+pub mod Sheet

@@ -2,7 +2,7 @@
 --
 --   sheet            every row is right: each is computed
 --   sheet-holds      so every row holds: what the contracts say is what the sheet says, in every number and every word
---   same-words, same-report, same-outcome, same-divided, same-number, same-balance    what passes the test is equal
+--   same-words, same-report, same-outcome, same-number, same-balance    what passes the test is equal
 use Prim.Native.Nat.{ℕ}
 use mathlib.Core.Path.{_≡_, refl, ap}
 use mathlib.Core.Bool.{true, false≢true}
@@ -17,16 +17,17 @@ use Rattle.field.specs.Answers.{balancedOf, balancedValue}
 use Rattle.field.specs.declared.Balance.{Balance}
 use Rattle.monomial.specs.Layout.{isMonomial}
 use Rattle.poly.specs.Words.{polyOf}
-use Rattle.refusals.specs.Rules.{guardAt, orderAt, badNumberAt, modulusRule, oddRule, longRule, guardRule, orderRule, numberRule, divisorRule, workRule}
+use Rattle.refusals.specs.Rules.{guardAt, orderAt, badCoefAt, modulusRule, oddRule, longRule, guardRule, orderRule, coefRule, divisorRule, workRule}
 use Rattle.refusals.specs.declared.report.Report.{Report}
 use Rattle.calls.specs.Outcomes.{Outcome}
 use Rattle.product.specs.Products.{multiplied, productOf}
-use Rattle.division.specs.Division.{Divided, divideOf, dividesOf}
+use Rattle.division.specs.Division.{divideOf, testOf}
 use Rattle.judges.specs.Judges.{steps}
-use Rattle.claims.specs.Sheet.{Row, product, division, divideTest, balanced, Holds, AllHold, sameWords, sameReport, sameOutcome, sameDivided, sameNumber, sameBalance, right, allRight, rows}
+use Rattle.claims.specs.Sheet.{Row, product, division, divideTest, balanced, Holds, AllHold, sameWords, sameReport, sameOutcome, sameNumber, sameBalance, right, allRight, rows}
 
 pub sheet : allRight rows ≡ true
-unfolding productOf multiplied divideOf dividesOf steps polyOf isMonomial isPrime inverse isModulus decLt modulusRule oddRule longRule guardRule guardAt orderRule orderAt numberRule badNumberAt divisorRule workRule balancedOf balancedValue
+unfolding productOf multiplied divideOf testOf steps polyOf isMonomial isPrime inverse isModulus decLt modulusRule oddRule longRule guardRule guardAt
+    orderRule orderAt coefRule badCoefAt divisorRule workRule balancedOf balancedValue
 sheet = refl
 
 -- What passes the test is equal
@@ -56,22 +57,12 @@ same-report r s e =
 same-outcome : (a b : Outcome) → sameOutcome a b ≡ true → a ≡ b
 same-outcome a b e =
     let r = both-true _ _ e in
-    let w = both-true _ _ (r .1) in
+    let f = both-true _ _ (r .1) in
+    let w = both-true _ _ (f .1) in
     λ i. record {
       report = same-report (a .report) (b .report) (r .0) i;
-      room = same-words (a .room) (b .room) (w .0) i;
-      work = same-words (a .work) (b .work) (w .1) i;
-    }
-
-same-divided : (a b : Divided) → sameDivided a b ≡ true → a ≡ b
-same-divided a b e =
-    let r = both-true _ _ e in
-    let q = both-true _ _ (r .1) in
-    let w = both-true _ _ (q .1) in
-    λ i. record {
-      report = same-report (a .report) (b .report) (r .0) i;
-      quotient = same-words (a .quotient) (b .quotient) (q .0) i;
-      remainder = same-words (a .remainder) (b .remainder) (w .0) i;
+      first = same-words (a .first) (b .first) (f .0) i;
+      second = same-words (a .second) (b .second) (w .0) i;
       work = same-words (a .work) (b .work) (w .1) i;
     }
 
@@ -90,7 +81,7 @@ same-balance a b e =
 
 right-holds : (row : Row) → right row ≡ true → Holds row
 right-holds (product p a b room work leaves) e = same-outcome _ _ e
-right-holds (division p f g q r work leaves) e = same-divided _ _ e
+right-holds (division p f g q r work leaves) e = same-outcome _ _ e
 right-holds (divideTest p f g q work leaves) e = same-outcome _ _ e
 right-holds (balanced p c answers) e = same-balance _ _ e
 

@@ -1,4 +1,4 @@
--- Demand 2, "Each reply is given exactly when its rule says so", of the calls on single numbers and words, and of the profile.
+-- What is claimed of the calls on single numbers and words, and of the profile: each reply is given exactly when its rule says so.
 --
 --   modulus-told            the prime test: 1 where p is not a prime in its range
 --   field-sum-told, field-product-told, inverse-told, balanced-told, residue-told      1 first, then 6 for an operand that is not good
@@ -14,7 +14,7 @@ use lib.Dec.{eqb, ltb}
 use lib.IntN.{pos}
 use Rattle.algebra.specs.Residues.{pick}
 use Rattle.field.specs.Moduli.{isModulus, modulusOf}
-use Rattle.field.specs.Answers.{refusalOf, orRefused, noValue, sumOf, productOf, inverseOf, balancedOf, residueOf}
+use Rattle.field.specs.Answers.{refusalOf, orRefused, noValue, fieldSumOf, fieldProductOf, inverseOf, balancedOf, residueOf}
 use Rattle.field.proofs.modulus.Reads as modulus
 use Rattle.field.proofs.sum.Reads as field-sum
 use Rattle.field.proofs.product.Reads as field-product
@@ -77,7 +77,7 @@ pub field-sum-told : (κs : _) (x : _) (t : _) (s : _) → field-sum.Post κs x 
     let a = x .1 .0 in
     let b = x .1 .1 .0 in
     Single (t .number) p (ltb a p && ltb b p)
-unfolding sumOf
+unfolding fieldSumOf
 field-sum-told κs x t s post = single (ap told post ∙ number-of told noValue _ refl (λ r. refl) (x .0) (ltb (x .1 .0) (x .0) && ltb (x .1 .1 .0) (x .0)))
 
 pub field-product-told : (κs : _) (x : _) (t : _) (s : _) → field-product.Post κs x t s →
@@ -85,7 +85,7 @@ pub field-product-told : (κs : _) (x : _) (t : _) (s : _) → field-product.Pos
     let a = x .1 .0 in
     let b = x .1 .1 .0 in
     Single (t .number) p (ltb a p && ltb b p)
-unfolding productOf
+unfolding fieldProductOf
 field-product-told κs x t s post = single (ap told post ∙ number-of told noValue _ refl (λ r. refl) (x .0) (ltb (x .1 .0) (x .0) && ltb (x .1 .1 .0) (x .0)))
 
 -- the operand is 1 to p − 1

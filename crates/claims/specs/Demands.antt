@@ -7,22 +7,28 @@
 --                          product, negated the negative, [] zero, and equality is that of all coefficients modulo p
 --   front n s              the polynomial of the first n terms of a slice
 --   Result p f h           f is the polynomial h, written in falling lexicographic order with coefficients 1 to p − 1
+--   Combined               all that is claimed of a call that puts the normal form of h, the sum or the difference of a and b, into a room
 --   lead g                 the lead monomial of a slice
 --   Pair p f g m q r       f = q·g + r, and no term of r is divisible by the monomial m
 --   Factor p f g h         h times g is f
---   terms p h              how many terms the polynomial h has
+--   termCount p h          how many terms the polynomial h has
 use Prim.Native.Nat.{ℕ, _*_, _<_, _≤_}
 use mathlib.Core.Path.{_≡_}
 use mathlib.Core.Bool.{Bool, true, false}
 use mathlib.Core.List.{List, [], _∷_, _++_}
-use mathlib.Core.Logic.{_↔_}
+use mathlib.Core.Logic.{_⊎_, _↔_}
 use lib.ListN.{length, take}
+use Rattle.algebra.specs.Residues.{Prime}
 use Rattle.algebra.specs.Monomials.{Letters}
 use Rattle.algebra.specs.Orders.{Lex}
 use Rattle.algebra.specs.Polynomials.{term, Poly, Equal, mul, negated, norm, NoMultiple, Normal}
-use Rattle.field.specs.Moduli.{isModulus}
+use Rattle.field.specs.Moduli.{limit, isModulus}
 use Rattle.monomial.specs.Layout.{base}
-use Rattle.poly.specs.Words.{termAt, polyOf, cleared}
+use Rattle.poly.specs.Words.{records, termAt, polyOf, wordsOf, filled, cleared}
+use Rattle.poly.specs.Valid.{Valid}
+use Rattle.refusals.specs.Reports.{none, refusal, done, firstOr, FirstDue}
+use Rattle.refusals.specs.declared.report.Report.{Report}
+use Rattle.calls.specs.Inputs.{twoInputs}
 
 -- Answers
 
@@ -68,6 +74,19 @@ pub record Result (p : ℕ) (f h : P) : Type 0 where
   pub equal : Equal p f h
   pub normal : Normal (Lex 4) p f
 
+-- Here t is the report, and room′ the room afterwards. 1 to 8 exactly when they are the first due; 10 exactly when none is and the true
+-- result, after cancellation, has more terms than the room; 0 else.
+pub record Combined (p : ℕ) (a b : List ℕ) (h : P) (room : List ℕ) (t : Report) (room′ : List ℕ) : Type 0 where
+  pub refuses : (n : Report) → 0 < n .number → n .number ≤ 8 → (t ≡ n) ↔ FirstDue (twoInputs p a b room) n
+  pub full : (t .number ≡ 10) ↔ ((firstOr (twoInputs p a b room) none .number ≡ 0) × (records room < length (norm (Lex 4) p h)))
+  pub fits : (t .number ≡ 0) ↔ ((firstOr (twoInputs p a b room) none .number ≡ 0) × (length (norm (Lex 4) p h) ≤ records room))
+  pub good : (t .number ≡ 0) ⊎ (8 < t .number) → Prime p × (p ≤ limit) × Valid p a × Valid p b
+  pub refused : Afterwards (t .number) room room′
+  pub stopped : 8 < t .number → (t .number ≡ 10) × (t ≡ refusal (t .number) 0 0)
+  pub written : t .number ≡ 0 → (t ≡ done (length (norm (Lex 4) p h)) 0) × (room′ ≡ filled (length room) (wordsOf base (norm (Lex 4) p h)))
+  pub result : t .number ≡ 0 → Result p (front (t .first) room′) h
+  pub count : t .number ≡ 0 → (k : P) → Normal (Lex 4) p k → Equal p k h → t .first ≡ length k
+
 -- Division
 
 abbrev pub lead : List ℕ → Letters 4 .Mon
@@ -80,5 +99,5 @@ pub record Pair (p : ℕ) (f g : P) (m : Letters 4 .Mon) (q r : P) : Type 0 wher
 abbrev pub Factor : ℕ → P → P → P → Type 0
 Factor p f g h = Equal p f (mul h g)
 
-abbrev pub terms : ℕ → P → ℕ
-terms p h = length (norm (Lex 4) p h)
+abbrev pub termCount : ℕ → P → ℕ
+termCount p h = length (norm (Lex 4) p h)

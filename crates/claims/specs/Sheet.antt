@@ -1,4 +1,4 @@
--- The sheet of examples of document 01: its rows marked [P], each a call, what it is lent, and what it has to leave behind.
+-- The examples of RULES Sheet: its rows marked [P], each a call, what it is lent, and what it has to leave behind.
 --
 --   c x^ i, c x^ i y^ j     the terms c · x^i and c · x^i · y^j; a number −c is p − c
 --   words f                 the words of a polynomial
@@ -27,7 +27,7 @@ use Rattle.poly.specs.Words.{wordsOf}
 use Rattle.refusals.specs.declared.report.Report.{Report}
 use Rattle.calls.specs.Outcomes.{Outcome, outcome}
 use Rattle.product.specs.Products.{productOf}
-use Rattle.division.specs.Division.{Divided, divided, divideOf, dividesOf}
+use Rattle.division.specs.Division.{divideOf, testOf}
 
 infix 70 _x^_
 infix 70 _x^_y^_
@@ -62,7 +62,7 @@ minus n = negℤ (pos n)
 
 pub data Row : Type 0 where
   product : (p : ℕ) (a b room work : List ℕ) → Outcome → Row
-  division : (p : ℕ) (f g q r work : List ℕ) → Divided → Row
+  division : (p : ℕ) (f g q r work : List ℕ) → Outcome → Row
   divideTest : (p : ℕ) (f g q work : List ℕ) → Outcome → Row
   balanced : (p c : ℕ) → Balance → Row
 
@@ -71,7 +71,7 @@ pub data Row : Type 0 where
 abbrev pub Holds : Row → Type 0
 Holds (product p a b room work leaves) = productOf p a b room work ≡ leaves
 Holds (division p f g q r work leaves) = divideOf p f g q r work ≡ leaves
-Holds (divideTest p f g q work leaves) = dividesOf p f g q work ≡ leaves
+Holds (divideTest p f g q work leaves) = testOf p f g q work ≡ leaves
 Holds (balanced p c answers) = balancedOf p c ≡ answers
 
 abbrev pub AllHold : List Row → Type 0
@@ -92,12 +92,9 @@ sameReport r s =
     && (eqb (r .operand) (s .operand) && (eqb (r .index) (s .index) && (eqb (r .first) (s .first) && eqb (r .second) (s .second))))
 
 abbrev pub sameOutcome : Outcome → Outcome → Bool
-sameOutcome a b = sameReport (a .report) (b .report) && (sameWords (a .room) (b .room) && sameWords (a .work) (b .work))
-
-abbrev pub sameDivided : Divided → Divided → Bool
-sameDivided a b =
+sameOutcome a b =
     sameReport (a .report) (b .report)
-    && (sameWords (a .quotient) (b .quotient) && (sameWords (a .remainder) (b .remainder) && sameWords (a .work) (b .work)))
+    && (sameWords (a .first) (b .first) && (sameWords (a .second) (b .second) && sameWords (a .work) (b .work)))
 
 abbrev pub sameNumber : ℤ → ℤ → Bool
 sameNumber (pos m) (pos n) = eqb m n
@@ -110,8 +107,8 @@ sameBalance a b = eqb (a .number) (b .number) && sameNumber (a .value) (b .value
 
 abbrev pub right : Row → Bool
 right (product p a b room work leaves) = sameOutcome (productOf p a b room work) leaves
-right (division p f g q r work leaves) = sameDivided (divideOf p f g q r work) leaves
-right (divideTest p f g q work leaves) = sameOutcome (dividesOf p f g q work) leaves
+right (division p f g q r work leaves) = sameOutcome (divideOf p f g q r work) leaves
+right (divideTest p f g q work leaves) = sameOutcome (testOf p f g q work) leaves
 right (balanced p c answers) = sameBalance (balancedOf p c) answers
 
 abbrev pub allRight : List Row → Bool
@@ -195,35 +192,35 @@ q₁₁ = words (1 x^ 0 ∷ [])
 abbrev pub rows : List Row
 rows =
     -- 1, with a room of 7 terms and with one of 6
-    product 101 a₁ b₁ (dirty 14) (dirty 12) (outcome (report 0 0 0 7 0) ab₁ (zeros 12))
-    ∷ product 101 a₁ b₁ (dirty 12) (dirty 15) (outcome (report 10 0 0 0 0) (zeros 12) (zeros 15))
+    product 101 a₁ b₁ (dirty 14) (dirty 12) (outcome (report 0 0 0 7 0) ab₁ [] (zeros 12))
+    ∷ product 101 a₁ b₁ (dirty 12) (dirty 15) (outcome (report 10 0 0 0 0) (zeros 12) [] (zeros 15))
     -- 2
-    ∷ division 101 ab₁ a₁ (dirty 6) (dirty 4) (dirty 12) (divided (report 0 0 0 3 0) b₁ (zeros 4) (zeros 12))
+    ∷ division 101 ab₁ a₁ (dirty 6) (dirty 4) (dirty 12) (outcome (report 0 0 0 3 0) b₁ (zeros 4) (zeros 12))
     -- 3
-    ∷ division 101 f₃ g₃ (dirty 6) (dirty 8) (dirty 12) (divided (report 0 0 0 2 3) q₃ (r₃ ++ zeros 2) (zeros 12))
-    ∷ divideTest 101 f₃ g₃ (dirty 6) (dirty 13) (outcome (report 12 0 0 0 0) (zeros 6) (zeros 13))
+    ∷ division 101 f₃ g₃ (dirty 6) (dirty 8) (dirty 12) (outcome (report 0 0 0 2 3) q₃ (r₃ ++ zeros 2) (zeros 12))
+    ∷ divideTest 101 f₃ g₃ (dirty 6) (dirty 13) (outcome (report 12 0 0 0 0) (zeros 6) [] (zeros 13))
     -- 4
-    ∷ product 101 a₄ b₄ (dirty 4) (dirty 8) (outcome (report 0 0 0 2 0) ab₄ (zeros 8))
+    ∷ product 101 a₄ b₄ (dirty 4) (dirty 8) (outcome (report 0 0 0 2 0) ab₄ [] (zeros 8))
     -- 5
-    ∷ product 2 a₅ a₅ (dirty 6) (dirty 8) (outcome (report 0 0 0 2 0) (aa₅ ++ zeros 2) (zeros 8))
+    ∷ product 2 a₅ a₅ (dirty 6) (dirty 8) (outcome (report 0 0 0 2 0) (aa₅ ++ zeros 2) [] (zeros 8))
     -- 6
-    ∷ product 101 a₆ b₆ (dirty 2) (dirty 4) (outcome (report 0 0 0 1 0) ab₆ (zeros 4))
-    ∷ product 101 ab₆ xPoly (dirty 2) (dirty 4) (outcome (report 9 0 0 0 0) (zeros 2) (zeros 4))
+    ∷ product 101 a₆ b₆ (dirty 2) (dirty 4) (outcome (report 0 0 0 1 0) ab₆ [] (zeros 4))
+    ∷ product 101 ab₆ xPoly (dirty 2) (dirty 4) (outcome (report 9 0 0 0 0) (zeros 2) [] (zeros 4))
     -- 7, with a quotient room of 8 terms and with one of 1; an empty room is full at the first quotient term, so 9 is met at the second
-    ∷ division 101 f₇ g₇ (dirty 16) (dirty 4) (dirty 32) (divided (report 9 0 0 0 0) (zeros 16) (zeros 4) (zeros 32))
-    ∷ division 101 f₇ g₇ (dirty 2) (dirty 4) (dirty 4) (divided (report 9 0 0 0 0) (zeros 2) (zeros 4) (zeros 4))
-    ∷ division 101 f₇ g₇ (dirty 0) (dirty 4) (dirty 0) (divided (report 10 0 0 0 0) (zeros 0) (zeros 4) (zeros 0))
-    ∷ divideTest 101 f₇ g₇ (dirty 16) (dirty 32) (outcome (report 12 0 0 0 0) (zeros 16) (zeros 32))
+    ∷ division 101 f₇ g₇ (dirty 16) (dirty 4) (dirty 32) (outcome (report 9 0 0 0 0) (zeros 16) (zeros 4) (zeros 32))
+    ∷ division 101 f₇ g₇ (dirty 2) (dirty 4) (dirty 4) (outcome (report 9 0 0 0 0) (zeros 2) (zeros 4) (zeros 4))
+    ∷ division 101 f₇ g₇ (dirty 0) (dirty 4) (dirty 0) (outcome (report 10 0 0 0 0) (zeros 0) (zeros 4) (zeros 0))
+    ∷ divideTest 101 f₇ g₇ (dirty 16) (dirty 32) (outcome (report 12 0 0 0 0) (zeros 16) [] (zeros 32))
     -- 8, with a room of 3 terms and with one of 2
-    ∷ division 101 f₈ g₈ (dirty 6) (dirty 2) (dirty 12) (divided (report 0 0 0 3 0) q₈ (zeros 2) (zeros 12))
-    ∷ divideTest 101 f₈ g₈ (dirty 6) (dirty 12) (outcome (report 0 0 0 3 0) q₈ (zeros 12))
-    ∷ division 101 f₈ g₈ (dirty 4) (dirty 2) (dirty 8) (divided (report 10 0 0 0 0) (zeros 4) (zeros 2) (zeros 8))
-    ∷ divideTest 101 f₈ g₈ (dirty 4) (dirty 9) (outcome (report 10 0 0 0 0) (zeros 4) (zeros 9))
+    ∷ division 101 f₈ g₈ (dirty 6) (dirty 2) (dirty 12) (outcome (report 0 0 0 3 0) q₈ (zeros 2) (zeros 12))
+    ∷ divideTest 101 f₈ g₈ (dirty 6) (dirty 12) (outcome (report 0 0 0 3 0) q₈ [] (zeros 12))
+    ∷ division 101 f₈ g₈ (dirty 4) (dirty 2) (dirty 8) (outcome (report 10 0 0 0 0) (zeros 4) (zeros 2) (zeros 8))
+    ∷ divideTest 101 f₈ g₈ (dirty 4) (dirty 9) (outcome (report 10 0 0 0 0) (zeros 4) [] (zeros 9))
     -- 10; reply 7 changes no word
-    ∷ division 101 zeroPoly xPoly (dirty 0) (dirty 0) (dirty 0) (divided (report 0 0 0 0 0) (zeros 0) (zeros 0) (zeros 0))
-    ∷ division 101 xPoly zeroPoly (dirty 2) (dirty 2) (dirty 4) (divided (report 7 2 0 0 0) (dirty 2) (dirty 2) (dirty 4))
+    ∷ division 101 zeroPoly xPoly (dirty 0) (dirty 0) (dirty 0) (outcome (report 0 0 0 0 0) (zeros 0) (zeros 0) (zeros 0))
+    ∷ division 101 xPoly zeroPoly (dirty 2) (dirty 2) (dirty 4) (outcome (report 7 2 0 0 0) (dirty 2) (dirty 2) (dirty 4))
     -- 11
-    ∷ division 101 a₁ a₁ (dirty 2) (dirty 2) (dirty 4) (divided (report 0 0 0 1 0) q₁₁ (zeros 2) (zeros 4))
+    ∷ division 101 a₁ a₁ (dirty 2) (dirty 2) (dirty 4) (outcome (report 0 0 0 1 0) q₁₁ (zeros 2) (zeros 4))
     -- 13
     ∷ balanced 101 50 (balance 0 (pos 50))
     ∷ balanced 101 51 (balance 0 (minus 50))

@@ -1,5 +1,4 @@
 -- Laws of division.
-pub mod Ends
 pub mod Accepted
-pub mod Due
+pub mod WalkedRooms
 pub mod Determined

@@ -4,18 +4,20 @@ ghost use Prim.Native.Nat.{_*_, _<_, _≤_};
 ghost use lib.ListN.{length};
 ghost use Rattle.algebra.specs.Residues.{Prime};
 ghost use Rattle.field.specs.Moduli.{limit};
-ghost use Rattle.monomial.specs.Layout.{base};
-ghost use Rattle.poly.specs.Words.{records, polyOf};
-ghost use Rattle.refusals.specs.Rules.{inputTerms, roomTerms};
+ghost use Rattle.poly.specs.Words.{records};
 ghost use Rattle.poly.specs.Valid.{Valid};
-ghost use Rattle.judges.specs.Judges.{divisionJudges, walkBy};
-ghost use Rattle.division.specs.Division.{divided, afterDivision, divideOf};
-use crate::rules::divide_rules;
+ghost use Rattle.refusals.specs.Rules.{inputTerms};
+ghost use Rattle.calls.specs.Outcomes.{outcome};
+ghost use Rattle.division.specs.Division.{divideOf, divided};
+use crate::rules::last_rules;
+use calls::ending::leave;
+use calls::ending::report_of;
+use calls::inputs::two_inputs;
 use judges::prepare;
 use poly::room::clear;
 use refusals::report::Report;
-use refusals::report::done;
-use refusals::report::refusal;
+use refusals::rules::INPUT_TERMS;
+use refusals::rules::ROOM_TERMS;
 use walk::run;
 
 // The quotient and the remainder of f by g in the rooms q and r, with four work words for each term of the quotient room.
@@ -27,9 +29,13 @@ pub fn divide(
     r: &mut [u64],
     work: &mut [u64],
 ) -> Report
-    ensures { λ t. ⌜ divided t (now (q .exit)) (now (r .exit)) (now (work .exit)) ≡ divideOf p (now (f .entry)) (now (g .entry)) (now (q .entry)) (now (r .entry)) (now (work .entry)) ⌝ }
+    ensures { λ t. ⌜ outcome t (now (q .exit)) (now (r .exit)) (now (work .exit))
+        ≡ divideOf p (now (f .entry)) (now (g .entry)) (now (q .entry)) (now (r .entry)) (now (work .entry)) ⌝ }
 {
-    let due = divide_rules(p, f, g, q, r, work);
+    let due = two_inputs(p, f, g)
+        .room(3, INPUT_TERMS, q)
+        .room(4, ROOM_TERMS, r)
+        .first(p, last_rules(g, q, work));
     if due.number != 0 {
         return due;
     }
@@ -45,20 +51,16 @@ fn divide_good(
     r: &mut [u64],
     work: &mut [u64],
 ) -> Report
-    requires { ⌜ (Prime p) × (p ≤ limit) × (0 < records (now g)) × (records (now g) ≤ inputTerms) × (records (now q) ≤ inputTerms) × (4 * records (now q) ≤ length (now work)) × (records (now r) ≤ roomTerms) ⌝ }
-    requires { ⌜ (Valid p (now f)) × (Valid p (now g)) ⌝ }
-    ensures { λ t. ⌜ divided t (now (q .exit)) (now (r .exit)) (now (work .exit)) ≡ afterDivision (walkBy p (divisionJudges (polyOf base (now (g .entry))) (records (now (q .entry))) (records (now (r .entry)))) (polyOf base (now (f .entry))) (polyOf base (now (g .entry)))) (now (q .entry)) (now (r .entry)) (now (work .entry)) ⌝ }
+    requires { ⌜ (Prime p) × (p ≤ limit) × (Valid p (now f)) × (Valid p (now g)) × (0 < records (now g)) × (records (now g) ≤ inputTerms) ⌝ }
+    requires { ⌜ (records (now q) ≤ inputTerms) × (4 * records (now q) ≤ length (now work)) ⌝ }
+    ensures { λ t. ⌜ outcome t (now (q .exit)) (now (r .exit)) (now (work .exit))
+        ≡ divided p (now (f .entry)) (now (g .entry)) (now (q .entry)) (now (r .entry)) (now (work .entry)) ⌝ }
 {
     clear(q, 0);
     let plan = prepare(p, f, g, false, q.len() / 2, r.len() / 2);
     let s = run(p, f, g, q, r, work, plan);
     clear(work, 0);
-    if s.reply != 0 {
-        clear(q, 0);
-        clear(r, 0);
-        return refusal(s.reply, 0, 0);
-    }
-    clear(q, 2 * s.quotient);
-    clear(r, 2 * s.remainder);
-    done(s.quotient as u64, s.remainder as u64)
+    leave(q, s.reply, s.quotient);
+    leave(r, s.reply, s.remainder);
+    report_of(s.reply, s.quotient, s.remainder)
 }

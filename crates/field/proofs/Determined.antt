@@ -1,4 +1,4 @@
--- Each operation of document 01 asks nothing of its caller, and no contract leaves a second outcome, nor that of an unchecked form:
+-- Each operation of RULES Field and Balanced asks nothing of its caller, and no contract leaves a second outcome, nor that of an unchecked form:
 -- the contract is the one that the check generates from the source, so that a theorem here fails when a contract says less.
 --
 --   NAME-asks-nothing    every argument is allowed

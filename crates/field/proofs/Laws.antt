@@ -25,7 +25,7 @@ use Rattle.algebra.proofs.Residues.{same-eq, same-sym, same-trans, same-mod, sa
 use Rattle.algebra.proofs.Primes.{below-not-zero, inverse-law, inverse-below}
 use Rattle.field.specs.declared.Balance.{Balance}
 use Rattle.field.specs.Moduli.{limit, modulusOf}
-use Rattle.field.specs.Answers.{orRefused, value, noValue, sumOf, productOf, inverseOf, balancedValue, balancedOf, residueValue, residueOf}
+use Rattle.field.specs.Answers.{orRefused, value, noValue, fieldSumOf, fieldProductOf, inverseOf, balancedValue, balancedOf, residueValue, residueOf}
 use Rattle.algebra.proofs.Tests.{both-true}
 use Rattle.field.proofs.Moduli.{modulus-prime, modulus-within, modulus-of, modulus-passed}
 use Rattle.field.proofs.Operands.{answer-passed}
@@ -36,7 +36,8 @@ use Rattle.field.proofs.Signs.{subtracted}
 abbrev Modulus : ℕ → Type 0
 Modulus p = Prime p × (p ≤ limit)
 
-done : {A : Type 0} (number : A → ℕ) (refused : ℕ → A) → ((r : ℕ) → number (refused r) ≡ r) → (p : ℕ) (good : Bool) (v : A) → number v ≡ 0 → (number (orRefused refused p good v) ≡ 0) ↔ (Modulus p × (good ≡ true))
+done : {A : Type 0} (number : A → ℕ) (refused : ℕ → A) → ((r : ℕ) → number (refused r) ≡ r) → (p : ℕ) (good : Bool) (v : A) → number v ≡ 0 →
+    (number (orRefused refused p good v) ≡ 0) ↔ (Modulus p × (good ≡ true))
 done number refused k p good v z = (
   λ e. let h = answer-passed number refused k p good v e in ((modulus-prime (h .0), modulus-within (h .0)), h .1),
   λ h. rw (modulus-of (h .0 .0) (h .0 .1), h .1) z,
@@ -56,12 +57,12 @@ bounds-done p x a y b v =
       λ h. d .1 ((h .0, h .1), rw (lt-ltb _ _ (h .2)) (lt-ltb _ _ (h .3))),
     )
 
-pub sum-done : (p a b : ℕ) → (sumOf p a b .number ≡ 0) ↔ (Prime p × (p ≤ limit) × (a < p) × (b < p))
-unfolding sumOf
+pub sum-done : (p a b : ℕ) → (fieldSumOf p a b .number ≡ 0) ↔ (Prime p × (p ≤ limit) × (a < p) × (b < p))
+unfolding fieldSumOf
 sum-done p a b = bounds-done p a p b p _
 
-pub product-done : (p a b : ℕ) → (productOf p a b .number ≡ 0) ↔ (Prime p × (p ≤ limit) × (a < p) × (b < p))
-unfolding productOf
+pub product-done : (p a b : ℕ) → (fieldProductOf p a b .number ≡ 0) ↔ (Prime p × (p ≤ limit) × (a < p) × (b < p))
+unfolding fieldProductOf
 product-done p a b = bounds-done p a p b p _
 
 pub inverse-done : (p a : ℕ) → (inverseOf p a .number ≡ 0) ↔ (Prime p × (p ≤ limit) × (0 < a) × (a < p))
@@ -82,8 +83,8 @@ residue-done p n =
 
 -- The inverse
 
-pub inverse-undoes : {p : ℕ} → Prime p → p ≤ limit → (a : ℕ) → 0 < a → a < p → productOf p a (inverseOf p a .value) ≡ value 1
-unfolding productOf inverseOf
+pub inverse-undoes : {p : ℕ} → Prime p → p ≤ limit → (a : ℕ) → 0 < a → a < p → fieldProductOf p a (inverseOf p a .value) ≡ value 1
+unfolding fieldProductOf inverseOf
 inverse-undoes {p} P h a k l =
     let n : Same p a 0 → ⊥ = below-not-zero k l in
     rw (modulus-of P h, lt-ltb 0 a k, lt-ltb a p l, lt-ltb _ _ (inverse-below P a n))

@@ -39,7 +39,8 @@ pair-passed p a b r due z =
     let k = both-true (ltb a p) (ltb b p) (h .1) in
     (h .0, ltb-true a p (k .0), ltb-true b p (k .1))
 
-pub answer-passed : {A : Type 0} (number : A → ℕ) (refused : ℕ → A) → ((r : ℕ) → number (refused r) ≡ r) → (p : ℕ) (good : Bool) (v : A) → number (orRefused refused p good v) ≡ 0 → (isModulus p ≡ true) × (good ≡ true)
+pub answer-passed : {A : Type 0} (number : A → ℕ) (refused : ℕ → A) → ((r : ℕ) → number (refused r) ≡ r) → (p : ℕ) (good : Bool) (v : A) →
+    number (orRefused refused p good v) ≡ 0 → (isModulus p ≡ true) × (good ≡ true)
 answer-passed number refused k p good v e = good-passed p good (refusalOf p good) refl (go (eqb (refusalOf p good) 0) refl e)
   where
     go : (t : Bool) → eqb (refusalOf p good) 0 ≡ t → number (pick t v (refused (refusalOf p good))) ≡ 0 → refusalOf p good ≡ 0

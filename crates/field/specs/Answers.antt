@@ -1,16 +1,16 @@
 -- What each field operation answers: a number, 0 or that of a refusal, and a value, 0 beside a refusal.
 -- Refusal 1 comes first, where p is not a modulus; then 6, where an operand is not what it has to be.
 --
---   refusalOf p good     the refusal that is due of a modulus and operands, 0 where none is
---   orRefused            an answer, or the refusal that is due in its place
---   value, noValue       reply 0 with a value; a refusal with the value 0
---   sumOf p a b          the answer of the sum: a + b modulo p
---   productOf p a b      of the product: a · b modulo p
---   inverseOf p a        of the inverse: the x from 1 to p − 1 with a · x ≡ 1 modulo p; 0 has none
---   balancedValue p c    the balanced value of the residue c: c where 2c is at most p, else c − p
---   balancedOf p c       the answer with it
---   residueValue p n     the residue of the whole number n, from 0 to p − 1
---   residueOf p n        the answer with it; 6 refuses none
+--   refusalOf p good        the refusal that is due of a modulus and operands, 0 where none is
+--   orRefused               an answer, or the refusal that is due in its place
+--   value, noValue          reply 0 with a value; a refusal with the value 0
+--   fieldSumOf p a b        the answer of the sum: a + b modulo p
+--   fieldProductOf p a b    of the product: a · b modulo p
+--   inverseOf p a           of the inverse: the x from 1 to p − 1 with a · x ≡ 1 modulo p; 0 has none
+--   balancedValue p c       the balanced value of the residue c: c where 2c is at most p, else c − p
+--   balancedOf p c          the answer with it
+--   residueValue p n        the residue of the whole number n, from 0 to p − 1
+--   residueOf p n           the answer with it; 6 refuses none
 use Prim.Native.Nat.{ℕ, _+_, _-_, _*_, _%_}
 use mathlib.Core.Bool.{Bool, true, _&&_}
 use lib.Dec.{eqb, leb, ltb}
@@ -39,12 +39,12 @@ abbrev pub noValue : ℕ → Value
 noValue r = record { number = r; value = 0 }
 
 -- both operands below p: the remainder of a + b
-unfoldable pub sumOf : ℕ → ℕ → ℕ → Value
-sumOf p a b = orRefused noValue p (ltb a p && ltb b p) (value ((a + b) % p))
+unfoldable pub fieldSumOf : ℕ → ℕ → ℕ → Value
+fieldSumOf p a b = orRefused noValue p (ltb a p && ltb b p) (value ((a + b) % p))
 
 -- both operands below p: the remainder of a · b
-unfoldable pub productOf : ℕ → ℕ → ℕ → Value
-productOf p a b = orRefused noValue p (ltb a p && ltb b p) (value (a * b % p))
+unfoldable pub fieldProductOf : ℕ → ℕ → ℕ → Value
+fieldProductOf p a b = orRefused noValue p (ltb a p && ltb b p) (value (a * b % p))
 
 -- an operand from 1 to p − 1: its inverse
 unfoldable pub inverseOf : ℕ → ℕ → Value

@@ -1,4 +1,4 @@
-// Numbers modulo a prime p: the single field operations of document 01, and the unchecked forms of them that loops call, for a
+// Numbers modulo a prime p: the operations of RULES Field and Balanced, and the unchecked forms of them that loops call, for a
 // modulus and operands that are known to be good.
 ghost use mathlib.Core.Path.{_≡_};
 ghost use mathlib.Core.Bool.{_&&_};

@@ -1,14 +1,14 @@
 ghost use mathlib.Core.Path.{_≡_};
 ghost use Prim.Native.Nat.{_*_, _%_, _<_, _≤_};
 ghost use Rattle.field.specs.Moduli.{limit};
-ghost use Rattle.field.specs.Answers.{productOf};
+ghost use Rattle.field.specs.Answers.{fieldProductOf};
 use crate::Value;
 use crate::pair_refusal;
 use crate::refused;
 
 // The product of two residues.
 pub fn product(p: u64, a: u64, b: u64) -> Value
-    ensures { λ r. ⌜ r ≡ productOf p a b ⌝ }
+    ensures { λ r. ⌜ r ≡ fieldProductOf p a b ⌝ }
 {
     let due = pair_refusal(p, a, b);
     if due != 0 {

@@ -8,7 +8,6 @@ use mathlib.Core.Path.{_≡_, sym, _∙_}
 use mathlib.Core.List.{[]}
 use denote.Ref.{now}
 use Rattle.calls.specs.Outcomes.{outcome}
-use Rattle.division.specs.Division.{divided}
 use Rattle.garantepo.proofs.garantepo_check.Reads as garantepo-check
 use Rattle.garantepo.proofs.garantepo_profile_of.Reads as garantepo-profile-of
 use Rattle.garantepo.proofs.garantepo_run.Reads as garantepo-run
@@ -46,31 +45,51 @@ garantepo-run-determined κs a r r′ s s′ p q = p ∙ sym q
 pub garantepo-sum-asks-nothing : (κs : _) (a : _) → garantepo-sum.Pre κs a
 garantepo-sum-asks-nothing κs a = tt
 
-pub garantepo-sum-determined : (κs : _) (a : _) (r r′ : _) (s s′ : _) → garantepo-sum.Post κs a r s → garantepo-sum.Post κs a r′ s′ → outcome r (now (s .1 .1 .1 .0)) [] ≡ outcome r′ (now (s′ .1 .1 .1 .0)) []
+pub garantepo-sum-determined :
+    (κs : _) (a : _) (r r′ : _) (s s′ : _) →
+    garantepo-sum.Post κs a r s →
+    garantepo-sum.Post κs a r′ s′ →
+    outcome r (now (s .1 .1 .1 .0)) [] [] ≡ outcome r′ (now (s′ .1 .1 .1 .0)) [] []
 garantepo-sum-determined κs a r r′ s s′ p q = p ∙ sym q
 
 pub garantepo-difference-asks-nothing : (κs : _) (a : _) → garantepo-difference.Pre κs a
 garantepo-difference-asks-nothing κs a = tt
 
-pub garantepo-difference-determined : (κs : _) (a : _) (r r′ : _) (s s′ : _) → garantepo-difference.Post κs a r s → garantepo-difference.Post κs a r′ s′ → outcome r (now (s .1 .1 .1 .0)) [] ≡ outcome r′ (now (s′ .1 .1 .1 .0)) []
+pub garantepo-difference-determined :
+    (κs : _) (a : _) (r r′ : _) (s s′ : _) →
+    garantepo-difference.Post κs a r s →
+    garantepo-difference.Post κs a r′ s′ →
+    outcome r (now (s .1 .1 .1 .0)) [] [] ≡ outcome r′ (now (s′ .1 .1 .1 .0)) [] []
 garantepo-difference-determined κs a r r′ s s′ p q = p ∙ sym q
 
 pub garantepo-product-asks-nothing : (κs : _) (a : _) → garantepo-product.Pre κs a
 garantepo-product-asks-nothing κs a = tt
 
-pub garantepo-product-determined : (κs : _) (a : _) (r r′ : _) (s s′ : _) → garantepo-product.Post κs a r s → garantepo-product.Post κs a r′ s′ → outcome r (now (s .1 .1 .1 .0)) (now (s .1 .1 .1 .1 .0)) ≡ outcome r′ (now (s′ .1 .1 .1 .0)) (now (s′ .1 .1 .1 .1 .0))
+pub garantepo-product-determined :
+    (κs : _) (a : _) (r r′ : _) (s s′ : _) →
+    garantepo-product.Post κs a r s →
+    garantepo-product.Post κs a r′ s′ →
+    outcome r (now (s .1 .1 .1 .0)) [] (now (s .1 .1 .1 .1 .0)) ≡ outcome r′ (now (s′ .1 .1 .1 .0)) [] (now (s′ .1 .1 .1 .1 .0))
 garantepo-product-determined κs a r r′ s s′ p q = p ∙ sym q
 
 pub garantepo-divide-asks-nothing : (κs : _) (a : _) → garantepo-divide.Pre κs a
 garantepo-divide-asks-nothing κs a = tt
 
-pub garantepo-divide-determined : (κs : _) (a : _) (r r′ : _) (s s′ : _) → garantepo-divide.Post κs a r s → garantepo-divide.Post κs a r′ s′ → divided r (now (s .1 .1 .1 .0)) (now (s .1 .1 .1 .1 .0)) (now (s .1 .1 .1 .1 .1 .0)) ≡ divided r′ (now (s′ .1 .1 .1 .0)) (now (s′ .1 .1 .1 .1 .0)) (now (s′ .1 .1 .1 .1 .1 .0))
+pub garantepo-divide-determined :
+    (κs : _) (a : _) (r r′ : _) (s s′ : _) →
+    garantepo-divide.Post κs a r s →
+    garantepo-divide.Post κs a r′ s′ →
+    outcome r (now (s .1 .1 .1 .0)) (now (s .1 .1 .1 .1 .0)) (now (s .1 .1 .1 .1 .1 .0)) ≡ outcome r′ (now (s′ .1 .1 .1 .0)) (now (s′ .1 .1 .1 .1 .0)) (now (s′ .1 .1 .1 .1 .1 .0))
 garantepo-divide-determined κs a r r′ s s′ p q = p ∙ sym q
 
 pub garantepo-divides-asks-nothing : (κs : _) (a : _) → garantepo-divides.Pre κs a
 garantepo-divides-asks-nothing κs a = tt
 
-pub garantepo-divides-determined : (κs : _) (a : _) (r r′ : _) (s s′ : _) → garantepo-divides.Post κs a r s → garantepo-divides.Post κs a r′ s′ → outcome r (now (s .1 .1 .1 .0)) (now (s .1 .1 .1 .1 .0)) ≡ outcome r′ (now (s′ .1 .1 .1 .0)) (now (s′ .1 .1 .1 .1 .0))
+pub garantepo-divides-determined :
+    (κs : _) (a : _) (r r′ : _) (s s′ : _) →
+    garantepo-divides.Post κs a r s →
+    garantepo-divides.Post κs a r′ s′ →
+    outcome r (now (s .1 .1 .1 .0)) [] (now (s .1 .1 .1 .1 .0)) ≡ outcome r′ (now (s′ .1 .1 .1 .0)) [] (now (s′ .1 .1 .1 .1 .0))
 garantepo-divides-determined κs a r r′ s s′ p q = p ∙ sym q
 
 pub garantepo-field-sum-asks-nothing : (κs : _) (a : _) → garantepo-field-sum.Pre κs a

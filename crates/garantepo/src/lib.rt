@@ -1,17 +1,16 @@
-// The library for programs in C, and in any language that calls C: every call of document 01 under its own name. A slice is a pointer
+// The library for programs in C, and in any language that calls C: every call of docs/RULES.md under its own name. A slice is a pointer
 // and its number of words; `include/garantepo.h` says what a host has to keep to. Each function is one call of the proved library, and
 // its contract cites the same definition.
 ghost use mathlib.Core.Path.{_≡_};
 ghost use mathlib.Core.List.{[]};
-ghost use Rattle.field.specs.Answers.{inverseOf, balancedOf, residueOf};
-ghost use Rattle.field.specs.Answers as fields;
+ghost use Rattle.field.specs.Answers.{fieldSumOf, fieldProductOf, inverseOf, balancedOf, residueOf};
 ghost use Rattle.monomial.specs.Layout.{base};
 ghost use Rattle.monomial.specs.Answers.{packOf, unpackOf};
 ghost use Rattle.services.specs.Services.{checkOf, profileOf, runOf};
 ghost use Rattle.calls.specs.Outcomes.{outcome};
 ghost use Rattle.sums.specs.Sums.{sumOf, differenceOf};
 ghost use Rattle.product.specs.Products.{productOf};
-ghost use Rattle.division.specs.Division.{divided, divideOf, dividesOf};
+ghost use Rattle.division.specs.Division.{divideOf, testOf};
 use field::Balance;
 use field::Value;
 use monomial::Exponents;
@@ -46,7 +45,7 @@ pub extern "C" fn garantepo_run(a: &[u64], power: u64) -> Part
 // The sum of two polynomials.
 #[no_mangle]
 pub extern "C" fn garantepo_sum(p: u64, a: &[u64], b: &[u64], out: &mut [u64]) -> Report
-    ensures { λ r. ⌜ outcome r (now (out .exit)) [] ≡ sumOf p (now (a .entry)) (now (b .entry)) (now (out .entry)) ⌝ }
+    ensures { λ r. ⌜ outcome r (now (out .exit)) [] [] ≡ sumOf p (now (a .entry)) (now (b .entry)) (now (out .entry)) ⌝ }
 {
     sums::sum(p, a, b, out)
 }
@@ -54,7 +53,7 @@ pub extern "C" fn garantepo_sum(p: u64, a: &[u64], b: &[u64], out: &mut [u64]) -
 // The difference of two polynomials.
 #[no_mangle]
 pub extern "C" fn garantepo_difference(p: u64, a: &[u64], b: &[u64], out: &mut [u64]) -> Report
-    ensures { λ r. ⌜ outcome r (now (out .exit)) [] ≡ differenceOf p (now (a .entry)) (now (b .entry)) (now (out .entry)) ⌝ }
+    ensures { λ r. ⌜ outcome r (now (out .exit)) [] [] ≡ differenceOf p (now (a .entry)) (now (b .entry)) (now (out .entry)) ⌝ }
 {
     sums::difference(p, a, b, out)
 }
@@ -68,7 +67,9 @@ pub extern "C" fn garantepo_product(
     out: &mut [u64],
     work: &mut [u64],
 ) -> Report
-    ensures { λ r. ⌜ outcome r (now (out .exit)) (now (work .exit)) ≡ productOf p (now (a .entry)) (now (b .entry)) (now (out .entry)) (now (work .entry)) ⌝ }
+    ensures { λ r. ⌜
+        outcome r (now (out .exit)) [] (now (work .exit))
+        ≡ productOf p (now (a .entry)) (now (b .entry)) (now (out .entry)) (now (work .entry)) ⌝ }
 {
     product::product(p, a, b, out, work)
 }
@@ -83,7 +84,9 @@ pub extern "C" fn garantepo_divide(
     r: &mut [u64],
     work: &mut [u64],
 ) -> Report
-    ensures { λ t. ⌜ divided t (now (q .exit)) (now (r .exit)) (now (work .exit)) ≡ divideOf p (now (f .entry)) (now (g .entry)) (now (q .entry)) (now (r .entry)) (now (work .entry)) ⌝ }
+    ensures { λ t. ⌜
+        outcome t (now (q .exit)) (now (r .exit)) (now (work .exit))
+        ≡ divideOf p (now (f .entry)) (now (g .entry)) (now (q .entry)) (now (r .entry)) (now (work .entry)) ⌝ }
 {
     division::division::divide(p, f, g, q, r, work)
 }
@@ -97,7 +100,9 @@ pub extern "C" fn garantepo_divides(
     q: &mut [u64],
     work: &mut [u64],
 ) -> Report
-    ensures { λ t. ⌜ outcome t (now (q .exit)) (now (work .exit)) ≡ dividesOf p (now (f .entry)) (now (g .entry)) (now (q .entry)) (now (work .entry)) ⌝ }
+    ensures { λ t. ⌜
+        outcome t (now (q .exit)) [] (now (work .exit))
+        ≡ testOf p (now (f .entry)) (now (g .entry)) (now (q .entry)) (now (work .entry)) ⌝ }
 {
     division::test::divides(p, f, g, q, work)
 }
@@ -105,7 +110,7 @@ pub extern "C" fn garantepo_divides(
 // The sum of two residues.
 #[no_mangle]
 pub extern "C" fn garantepo_field_sum(p: u64, a: u64, b: u64) -> Value
-    ensures { λ r. ⌜ r ≡ fields.sumOf p a b ⌝ }
+    ensures { λ r. ⌜ r ≡ fieldSumOf p a b ⌝ }
 {
     field::sum(p, a, b)
 }
@@ -113,7 +118,7 @@ pub extern "C" fn garantepo_field_sum(p: u64, a: u64, b: u64) -> Value
 // The product of two residues.
 #[no_mangle]
 pub extern "C" fn garantepo_field_product(p: u64, a: u64, b: u64) -> Value
-    ensures { λ r. ⌜ r ≡ fields.productOf p a b ⌝ }
+    ensures { λ r. ⌜ r ≡ fieldProductOf p a b ⌝ }
 {
     field::product(p, a, b)
 }

@@ -1,7 +1,5 @@
 -- The judges on words.
 --
---   maxima-exponent, maxima-fits      the largest exponents as one monomial; of a valid slice it fits
---   packed                 packing the exponents of a profile gives the word of the maxima
 --   prepared               a plan with the words and the inverse of good inputs is ready
 --   divisor-monomial       the word of the divisor's maxima is a monomial
 --   reply-word             what a judge says of a quotient term, by its word
@@ -11,30 +9,34 @@ use Prim.Native.Nat.{ℕ, _+_, _^_, _≤_, _<_}
 use mathlib.Core.Path.{_≡_, refl, sym, _∙_, ap}
 use mathlib.Core.Bool.{Bool, true, false}
 use mathlib.Core.List.{List}
-use native.Mathlib.Decide.{decLt}
 use native.Mathlib.Omega.{arith}
 use lib.Dec.{ltb}
 use borrow.Author.Tests.{ltb-true}
 use Rattle.algebra.specs.Residues.{Prime, inverse, pick}
 use Rattle.algebra.specs.Monomials.{Letters, exponent}
-use Rattle.algebra.specs.Orders.{exponent-adds}
-use Rattle.algebra.specs.Polynomials.{Term, term, Poly, largest}
+use Rattle.algebra.specs.Polynomials.{Term, term, Poly}
 use Rattle.field.specs.Moduli.{limit}
 use Rattle.monomial.specs.Layout.{base, isMonomial, divides}
-use Rattle.monomial.proofs.Fields.{fits-letters, exponent-none, divides-fits}
+use Rattle.monomial.proofs.Fields.{divides-fits}
 use Rattle.monomial.proofs.Laws.{read, write, fit, word-monomial, word-read, sum-monomial, sum-divides}
-use Rattle.poly.specs.Words.{records, wordAt, numberAt, polyOf}
+use Rattle.poly.specs.Words.{records, wordAt, coefAt, polyOf}
 use Rattle.poly.specs.Valid.{Valid}
 use Rattle.poly.proofs.Readings.{weight-within}
 use Rattle.poly.specs.Profiles.{maxima}
 use Rattle.judges.specs.Judges.{unlessFull}
 use Rattle.judges.specs.Plans.{judgesBy, judgesOf, quotientReply, remainderReply, Ready}
 use Rattle.judges.specs.declared.Plan.{Plan}
-use Rattle.poly.proofs.Maxima.{maxima-exponent, maxima-fits}
+use Rattle.poly.proofs.Maxima.{maxima-fits, under-maxima-fits}
 
 -- what a plan has to be for a walk, the inputs being good
-pub prepared : (p : ℕ) (f g : List ℕ) (plan : Plan) → (Prime p × (p ≤ limit) × (0 < records g) × (records g < 2 ^ 32)) → Valid p f × Valid p g → plan .inverse ≡ inverse p (numberAt g 0) → plan .divisor ≡ write base (maxima (polyOf base g)) → (plan .test ≡ true → plan .dividend ≡ write base (maxima (polyOf base f))) → Ready p f g plan
-prepared p f g plan s valid inverted divisor dividend =
+pub prepared : (p : ℕ) (f g : List ℕ) (plan : Plan) →
+    (Prime p × (p ≤ limit) × (0 < records g) × (records g < 2 ^ 32)) →
+    Valid p f × Valid p g →
+    plan .inverse ≡ inverse p (coefAt g 0) →
+    plan .maxima ≡ write base (maxima (polyOf base g)) →
+    (plan .test ≡ true → plan .bounds ≡ write base (maxima (polyOf base f))) →
+    Ready p f g plan
+prepared p f g plan s valid inverted largest bounds =
     record {
       prime = s .0;
       positive = omega (arith, s .0 .two);
@@ -44,10 +46,10 @@ prepared p f g plan s valid inverted divisor dividend =
       some = s .2;
       few = s .3;
       inverted = inverted;
-      divisor-word = divisor;
-      divisor-fits = maxima-fits p g (valid .1);
-      dividend-word = dividend;
-      dividend-fits = maxima-fits p f (valid .0);
+      maxima-word = largest;
+      maxima-fit = maxima-fits p g (valid .1);
+      bounds-word = bounds;
+      bounds-fit = maxima-fits p f (valid .0);
     }
 
 -- a judge's reply is 0 only where its first test passes and there is room
@@ -59,7 +61,11 @@ full-zero : (i room n : ℕ) → 0 < n → unlessFull i room n ≡ 0 → i < roo
 full-zero i room n h e = ltb-true i room (pick-zero (ltb i room) 0 n h e .0)
 
 module _ (f g : Poly (Letters 4)) (q r : ℕ) where
-  by-word : (b : Bool) (word i c divisor dividend : ℕ) → isMonomial base word ≡ true → fit base (maxima g) ≡ true → fit base (maxima f) ≡ true → divisor ≡ write base (maxima g) → (b ≡ true → dividend ≡ write base (maxima f)) → judgesBy b f g q r .onQuotient i (term (read base word) c) ≡ quotientReply b divisor dividend q word i
+  by-word : (b : Bool) (word i c divisor dividend : ℕ) →
+      isMonomial base word ≡ true →
+      fit base (maxima g) ≡ true → fit base (maxima f) ≡ true →
+      divisor ≡ write base (maxima g) → (b ≡ true → dividend ≡ write base (maxima f)) →
+      judgesBy b f g q r .onQuotient i (term (read base word) c) ≡ quotientReply b divisor dividend q word i
   by-word true word i c divisor dividend h fg ff eg ef =
       let d = write base (maxima g) in
       let n = write base (maxima f) in
@@ -74,7 +80,10 @@ module _ (f g : Poly (Letters 4)) (q r : ℕ) where
       ∙ sym (sum-monomial base word d h (word-monomial base (maxima g) fg)))
       ∙ (λ x. quotientReply false (sym eg x) dividend q word i)
 
-  pub by-passes : (b : Bool) (a : Letters 4 .Mon) (i c : ℕ) → fit base (maxima f) ≡ true → judgesBy b f g q r .onQuotient i (term a c) ≡ 0 → (fit base (Letters 4 .mul a (maxima g)) ≡ true) × (i < q)
+  pub by-passes : (b : Bool) (a : Letters 4 .Mon) (i c : ℕ) →
+      fit base (maxima f) ≡ true →
+      judgesBy b f g q r .onQuotient i (term a c) ≡ 0 →
+      (fit base (Letters 4 .mul a (maxima g)) ≡ true) × (i < q)
   by-passes true a i c ff e =
       let z = pick-zero (divides 4 (Letters 4 .mul a (maxima g)) (maxima f)) (unlessFull i q 10) 12 (omega arith) e in
       (divides-fits 16 4 (Letters 4 .mul a (maxima g)) (maxima f) (z .0) ff, full-zero i q 10 (omega arith) (z .1))
@@ -91,17 +100,24 @@ remainder-room true room j e = absurd (omega arith)
 remainder-room false room j e = full-zero j room 11 (omega arith) e
 
 module _ (p : ℕ) (f g : List ℕ) (plan : Plan) (R : Ready p f g plan) where
-  pub divisor-monomial : isMonomial base (plan .divisor) ≡ true
-  divisor-monomial = ap (isMonomial base) (R .divisor-word) ∙ word-monomial base (maxima (polyOf base g)) (R .divisor-fits)
+  pub divisor-monomial : isMonomial base (plan .maxima) ≡ true
+  divisor-monomial = ap (isMonomial base) (R .maxima-word) ∙ word-monomial base (maxima (polyOf base g)) (R .maxima-fit)
 
   module _ (word : ℕ) (h : isMonomial base word ≡ true) (i c : ℕ) where
-    pub reply-word : judgesOf f g plan .onQuotient i (term (read base word) c) ≡ quotientReply (plan .test) (plan .divisor) (plan .dividend) (plan .quotients) word i
-    reply-word =
-        by-word (polyOf base f) (polyOf base g) (plan .quotients) (plan .remainders) (plan .test) word i c (plan .divisor) (plan .dividend) h (R .divisor-fits) (R .dividend-fits) (R .divisor-word) (R .dividend-word)
+    -- what the judge says of this word
+    abbrev pub judged : ℕ
+    judged = quotientReply (plan .test) (plan .maxima) (plan .bounds) (plan .quotients) word i
 
-    module _ (e : quotientReply (plan .test) (plan .divisor) (plan .dividend) (plan .quotients) word i ≡ 0) where
+    pub reply-word : judgesOf f g plan .onQuotient i (term (read base word) c) ≡ judged
+    reply-word =
+        by-word (polyOf base f) (polyOf base g) (plan .quotients) (plan .remainders) (plan .test) word i c
+        (plan .maxima) (plan .bounds) h (R .maxima-fit) (R .bounds-fit) (R .maxima-word) (R .bounds-word)
+
+    module _ (e : judged ≡ 0) where
       passes : (fit base (Letters 4 .mul (read base word) (maxima (polyOf base g))) ≡ true) × (i < plan .quotients)
-      passes = by-passes (polyOf base f) (polyOf base g) (plan .quotients) (plan .remainders) (plan .test) (read base word) i c (R .dividend-fits) (reply-word ∙ e)
+      passes =
+          by-passes (polyOf base f) (polyOf base g) (plan .quotients) (plan .remainders) (plan .test) (read base word) i c
+          (R .bounds-fit) (reply-word ∙ e)
 
       pub passes-room : i < plan .quotients
       passes-room = passes .1
@@ -109,16 +125,4 @@ module _ (p : ℕ) (f g : List ℕ) (plan : Plan) (R : Ready p f g plan) where
       pub passes-fits : (x : ℕ) → x < records g → isMonomial base (word + wordAt g x) ≡ true
       passes-fits x l =
           sum-monomial base word (wordAt g x) h (R .divisor .monomials x l)
-          ∙ fits-letters 16 4 (Letters 4 .mul (read base word) (read base (wordAt g x))) .1 (λ v. go v (decLt v 4))
-        where
-          go : (v : ℕ) → Dec (v < 4) → exponent 4 v (Letters 4 .mul (read base word) (read base (wordAt g x))) ≤ 32767
-          go v (yes b) =
-              omega (
-                arith,
-                exponent-adds 4 v (read base word) (read base (wordAt g x)),
-                exponent-adds 4 v (read base word) (maxima (polyOf base g)),
-                maxima-exponent (polyOf base g) v b,
-                weight-within g (exponent 4 v) x l,
-                fits-letters 16 4 (Letters 4 .mul (read base word) (maxima (polyOf base g))) .0 (passes .0) v,
-              )
-          go v (no b) = omega (arith, exponent-none 16 4 v (Letters 4 .mul (read base word) (read base (wordAt g x))) (omega arith))
+          ∙ under-maxima-fits (read base word) (read base (wordAt g x)) (polyOf base g) (λ v. weight-within g (exponent 4 v) x l) (passes .0)

@@ -12,9 +12,9 @@ use Prim.Native.Nat.{ℕ, _^_}
 use mathlib.Core.List.{[], _∷_}
 use lib.Dec.{ltb}
 use Rattle.algebra.specs.Residues.{pick}
-use Rattle.algebra.specs.Monomials.{Letters, exponent}
+use Rattle.algebra.specs.Monomials.{Letters}
 use Rattle.algebra.specs.Orders.{Lex}
-use Rattle.algebra.specs.Polynomials.{Poly, largest}
+use Rattle.algebra.specs.Polynomials.{Poly}
 use Rattle.algebra.specs.Walk.{Judges, Walked, stopped, walk}
 use Rattle.monomial.specs.Layout.{fits, divides}
 use Rattle.poly.specs.Profiles.{maxima}

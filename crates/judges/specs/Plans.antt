@@ -4,17 +4,17 @@
 --   quotientReply        what the judge of quotient terms says of a word
 --   remainderReply       what the judge of remainder terms says
 --   Ready                all that a walk asks of its inputs, and what was computed once
-use Prim.Native.Nat.{ℕ, _+_, _-_, _^_, _<_, _≤_}
+use Prim.Native.Nat.{ℕ, _+_, _^_, _<_, _≤_}
 use mathlib.Core.Path.{_≡_}
 use mathlib.Core.Bool.{Bool, true, false}
 use mathlib.Core.List.{List}
 use Rattle.algebra.specs.Residues.{Prime, inverse, pick}
 use Rattle.algebra.specs.Monomials.{Letters}
 use Rattle.algebra.specs.Polynomials.{Poly}
-use Rattle.algebra.specs.Walk.{Judges, walk}
+use Rattle.algebra.specs.Walk.{Judges}
 use Rattle.field.specs.Moduli.{limit}
-use Rattle.monomial.specs.Layout.{base, isMonomial, dividesOf, fits, wordOf}
-use Rattle.poly.specs.Words.{records, numberAt, terms, polyOf}
+use Rattle.monomial.specs.Layout.{base, isMonomial, wordDivides, fits, wordOf}
+use Rattle.poly.specs.Words.{records, coefAt, polyOf}
 use Rattle.poly.specs.Valid.{Valid}
 use Rattle.poly.specs.Profiles.{maxima}
 use Rattle.judges.specs.Judges.{unlessFull, divisionJudges, testJudges}
@@ -29,8 +29,8 @@ judgesOf f g plan = judgesBy (plan .test) (polyOf base f) (polyOf base g) (plan 
 
 -- by the words of the maxima of both inputs
 abbrev pub quotientReply : Bool → ℕ → ℕ → ℕ → ℕ → ℕ → ℕ
-quotientReply true divisor dividend room word i = pick (dividesOf base (word + divisor) dividend) (unlessFull i room 10) 12
-quotientReply false divisor dividend room word i = pick (isMonomial base (word + divisor)) (unlessFull i room 10) 9
+quotientReply true largest bounds room word i = pick (wordDivides base (word + largest) bounds) (unlessFull i room 10) 12
+quotientReply false largest bounds room word i = pick (isMonomial base (word + largest)) (unlessFull i room 10) 9
 
 abbrev pub remainderReply : Bool → ℕ → ℕ → ℕ
 remainderReply true room j = 12
@@ -44,8 +44,8 @@ pub record Ready (p : ℕ) (f g : List ℕ) (plan : Plan) : Type 0 where
   pub divisor : Valid p g
   pub some : 0 < records g
   pub few : records g < 2 ^ 32
-  pub inverted : plan .inverse ≡ inverse p (numberAt g 0)
-  pub divisor-word : plan .divisor ≡ wordOf 16 4 (maxima (polyOf base g))
-  pub divisor-fits : fits 16 4 (maxima (polyOf base g)) ≡ true
-  pub dividend-word : plan .test ≡ true → plan .dividend ≡ wordOf 16 4 (maxima (polyOf base f))
-  pub dividend-fits : fits 16 4 (maxima (polyOf base f)) ≡ true
+  pub inverted : plan .inverse ≡ inverse p (coefAt g 0)
+  pub maxima-word : plan .maxima ≡ wordOf 16 4 (maxima (polyOf base g))
+  pub maxima-fit : fits 16 4 (maxima (polyOf base g)) ≡ true
+  pub bounds-word : plan .test ≡ true → plan .bounds ≡ wordOf 16 4 (maxima (polyOf base f))
+  pub bounds-fit : fits 16 4 (maxima (polyOf base f)) ≡ true

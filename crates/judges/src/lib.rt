@@ -2,7 +2,7 @@
 ghost use mathlib.Core.Path.{_≡_};
 ghost use mathlib.Core.Bool.{true};
 ghost use Prim.Native.Nat.{_<_, _≤_, _^_};
-ghost use Rattle.algebra.specs.Residues.{Prime, pick};
+ghost use Rattle.algebra.specs.Residues.{Prime};
 ghost use Rattle.field.specs.Moduli.{limit};
 ghost use Rattle.monomial.specs.Layout.{base, isMonomial};
 ghost use Rattle.poly.specs.Words.{records};
@@ -10,14 +10,15 @@ ghost use Rattle.poly.specs.Valid.{Valid};
 ghost use Rattle.judges.specs.Judges.{unlessFull};
 ghost use Rattle.judges.specs.Plans.{quotientReply, remainderReply, Ready};
 use field::inverse_mod;
+use poly::numbers::choose;
 use poly::profile::largest_word;
 
 // Whether the call is the divide test; the words of the largest exponents of divisor and dividend, the second 0 where no test reads
 // it; the inverse of the divisor's lead coefficient; the terms that the rooms can hold.
 pub struct Plan {
     pub test: bool,
-    pub divisor: u64,
-    pub dividend: u64,
+    pub maxima: u64,
+    pub bounds: u64,
     pub inverse: u64,
     pub quotients: usize,
     pub remainders: usize,
@@ -38,27 +39,27 @@ pub fn prepare(
 {
     let mut plan = Plan {
         test,
-        divisor: largest_word(g),
-        dividend: 0,
+        maxima: largest_word(g),
+        bounds: 0,
         inverse: inverse_mod(p, g[1]),
         quotients,
         remainders,
     };
     if test {
-        plan.dividend = largest_word(f);
+        plan.bounds = largest_word(f);
     }
     plan
 }
 
 // The reply that stops a quotient term, 0 where it passes. The sum of two words has the sums of their exponents.
 pub fn judge_quotient(plan: Plan, word: u64, terms: usize) -> u64
-    requires { ⌜ (isMonomial base word ≡ true) × (isMonomial base (plan .divisor) ≡ true) ⌝ }
-    ensures { λ r. ⌜ r ≡ quotientReply (plan .test) (plan .divisor) (plan .dividend) (plan .quotients) word terms ⌝ }
+    requires { ⌜ (isMonomial base word ≡ true) × (isMonomial base (plan .maxima) ≡ true) ⌝ }
+    ensures { λ r. ⌜ r ≡ quotientReply (plan .test) (plan .maxima) (plan .bounds) (plan .quotients) word terms ⌝ }
 {
-    let sum = word + plan.divisor;
+    let sum = word + plan.maxima;
     let full = unless_full(terms, plan.quotients, 10);
     if plan.test {
-        choose(monomial::divides(sum, plan.dividend), full, 12)
+        choose(monomial::divides(sum, plan.bounds), full, 12)
     } else {
         choose(monomial::is_monomial(sum), full, 9)
     }
@@ -79,10 +80,4 @@ fn unless_full(terms: usize, room: usize, reply: u64) -> u64
     ensures { λ r. ⌜ r ≡ unlessFull terms room reply ⌝ }
 {
     if terms < room { 0 } else { reply }
-}
-
-fn choose(passes: bool, reply: u64, otherwise: u64) -> u64
-    ensures { λ r. ⌜ r ≡ pick passes reply otherwise ⌝ }
-{
-    if passes { reply } else { otherwise }
 }

@@ -359,7 +359,8 @@ module _ (v : ℕ) where
             ne-eqb (bitAnd (b + 2 ^ v - a) (2 ^ v)) (2 ^ v) (λ z. omega (arith, pow-pos v)) ∙ sym (lt-leb a b (omega arith))
       ]
 
-  pub borrow-test : (k : ℕ) (a b : Letters k .Mon) → fits (suc v) k a ≡ true → fits (suc v) k b ≡ true → eqb (bitAnd (wordOf (suc v) k b + guards k - wordOf (suc v) k a) (guards k)) (guards k) ≡ divides k a b
+  pub borrow-test : (k : ℕ) (a b : Letters k .Mon) → fits (suc v) k a ≡ true → fits (suc v) k b ≡ true →
+      eqb (bitAnd (wordOf (suc v) k b + guards k - wordOf (suc v) k a) (guards k)) (guards k) ≡ divides k a b
   borrow-test zero a b h l = refl
   borrow-test (suc k) a b h l =
       let j = suc v * k in
@@ -368,7 +369,8 @@ module _ (v : ℕ) where
       let top = b .0 + 2 ^ v - a .0 in
       let rest = wordOf (suc v) k (b .1) + guards k - wordOf (suc v) k (a .1) in
       let below : rest < 2 ^ j = omega (arith, guards-room k (b .1) l′) in
-      let e = borrowed (2 ^ j) (a .0) (b .0) (2 ^ v) (wordOf (suc v) k (a .1)) (wordOf (suc v) k (b .1)) (guards k) (omega (arith, fits-first (suc v) k a h, largest-suc v)) (omega (arith, guards-cover k (a .1) h′)) in
+      let e = borrowed (2 ^ j) (a .0) (b .0) (2 ^ v) (wordOf (suc v) k (a .1)) (wordOf (suc v) k (b .1)) (guards k)
+      (omega (arith, fits-first (suc v) k a h, largest-suc v)) (omega (arith, guards-cover k (a .1) h′)) in
       ap (λ n. eqb (bitAnd n (guards (suc k))) (guards (suc k))) e
       ∙ ap (λ n. eqb n (guards (suc k))) (and-block j top (2 ^ v) rest (guards k) below (guards-bound k))
       ∙ digits-eqb (2 ^ j) (bitAnd top (2 ^ v)) (bitAnd rest (guards k)) (2 ^ v) (guards k) (and-lt j rest (guards k) below (guards-bound k)) (guards-bound k)

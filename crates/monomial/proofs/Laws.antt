@@ -2,20 +2,19 @@
 --
 --   read, write, fit, times, room   a word's exponents, the word of exponents, whether they fit, their product; words are below the room
 --   monomial-below, monomial-fits, monomial-test, monomial-word   a monomial word is below the room and its exponents fit, no more
---                          is asked of it, and its exponents give it back
---   word-monomial, word-read   exponents that fit have a monomial word, and it gives them back
---   one-monomial           0 is the word of 1
---   less-word              word order is the lexicographic order of the exponents
+--                               is asked of it, and its exponents give it back
+--   word-monomial, word-read    exponents that fit have a monomial word, and it gives them back
+--   less-word                   word order is the lexicographic order of the exponents
 --   sum-below, sum-exponents, sum-monomial   the fields of the sum of two monomial words are the sums of the fields; it is a monomial
---                          word just where the product of the exponents fits
+--                               word just where the product of the exponents fits
 --   product-sum, product-monomials   the product's word, where no exponent bursts, is the sum
 --   divides-monomials, divides-exponents, divides-le   of the words of which the one divides the other
---   divides-iff            m divides n just where m + q ≡ n for some monomial word q
---   quotient-difference    the quotient's word is the difference
---   sum-divides            the sum of two monomial words divides a third just where the product of the exponents does, also where
---                          the product does not fit
---   word-divides           of words of exponents that fit, the one divides the other just where the exponents have a quotient
---   Coding, coding         the same as one record, for any kind and order of monomials; the layout's own
+--   divides-iff                 m divides n just where m + q ≡ n for some monomial word q
+--   quotient-difference         the quotient's word is the difference
+--   sum-divides                 the sum of two monomial words divides a third just where the product of the exponents does, also where
+--                               the product does not fit
+--   word-divides                of words of exponents that fit, the one divides the other just where the exponents have a quotient
+--   Coding, coding              the same as one record, for any kind and order of monomials; the layout's own
 use Prim.Native.Nat.{ℕ, _+_, _-_, _*_, _^_, _≤_, _<_}
 use mathlib.Core.Path.{_≡_, refl, sym, _∙_, ap}
 use mathlib.Core.Bool.{Bool, true, false, _&&_}
@@ -27,10 +26,27 @@ use Rattle.algebra.specs.Monomials.{Monomials, Letters}
 use Rattle.algebra.specs.Orders.{Order, Lex}
 use Rattle.algebra.specs.Residues.{pick}
 use Rattle.algebra.proofs.Tests.{both-true, both, same-test}
-use Rattle.monomial.specs.Layout.{Layout, exponentsOf, wordOf, fits, isMonomial, divides, over, dividesOf}
+use Rattle.monomial.specs.Layout.{Layout, exponentsOf, wordOf, fits, isMonomial, divides, over, wordDivides}
 use Rattle.field.specs.Answers.{value, noValue}
-use Rattle.monomial.specs.Answers.{productOf, quotientOf}
-use Rattle.monomial.proofs.Fields.{Held, fits-held, fits-one, product-held, word-bound, exponents-word, word-exponents, word-one, word-mul, word-less, divides-fits, factor-fits, divides-mul, over-mul, over-fits, divides-quotient}
+use Rattle.monomial.specs.Answers.{wordProductOf, wordQuotientOf}
+use Rattle.monomial.proofs.Fields.{
+  Held,
+  fits-held,
+  fits-one,
+  product-held,
+  word-bound,
+  exponents-word,
+  word-exponents,
+  word-one,
+  word-mul,
+  word-less,
+  divides-fits,
+  factor-fits,
+  divides-mul,
+  over-mul,
+  over-fits,
+  divides-quotient,
+}
 
 module _ (l : Layout) where
   abbrev pub read : ℕ → Letters (l .count) .Mon
@@ -72,10 +88,6 @@ module _ (l : Layout) where
   pub word-read : (a : Letters (l .count) .Mon) → fit a ≡ true → read (write a) ≡ a
   word-read a h = exponents-word (l .width) (l .count) a (fits-held (l .width) (l .count) a h)
 
-  pub one-monomial : isMonomial l 0 ≡ true
-  one-monomial =
-      ap (isMonomial l) (sym (word-one (l .width) (l .count))) ∙ word-monomial (Letters (l .count) .one) (fits-one (l .width) (l .count))
-
   module _ (m n : ℕ) where
     pub less-word : isMonomial l m ≡ true → isMonomial l n ≡ true → Lex (l .count) .less (read m) (read n) ↔ (m < n)
     less-word h g =
@@ -114,22 +126,22 @@ module _ (l : Layout) where
         let r = both-true (isMonomial l m) (isMonomial l n) (s .0) in
         sym (sum-monomial (r .0) (r .1)) ∙ s .1)
 
-    pub product-sum : m < room → n < room → productOf l m n ≡ pick (isMonomial l m && isMonomial l n && isMonomial l (m + n)) (value (m + n)) (noValue 9)
+    pub product-sum : m < room → n < room → wordProductOf l m n ≡ pick (isMonomial l m && isMonomial l n && isMonomial l (m + n)) (value (m + n)) (noValue 9)
     product-sum h g = λ i. pick (product-test h g i) (value (sum-word h g i)) (noValue 9)
 
-    pub product-monomials : isMonomial l m ≡ true → isMonomial l n ≡ true → productOf l m n ≡ pick (isMonomial l (m + n)) (value (m + n)) (noValue 9)
+    pub product-monomials : isMonomial l m ≡ true → isMonomial l n ≡ true → wordProductOf l m n ≡ pick (isMonomial l (m + n)) (value (m + n)) (noValue 9)
     product-monomials h g = λ i. pick (sym (sum-monomial h g) i) (value (sum-word (monomial-below m h) (monomial-below n g) i)) (noValue 9)
 
   module _ (m n : ℕ) where
-    pub divides-monomials : dividesOf l m n ≡ true → (isMonomial l m ≡ true) × (isMonomial l n ≡ true)
-    unfolding dividesOf
+    pub divides-monomials : wordDivides l m n ≡ true → (isMonomial l m ≡ true) × (isMonomial l n ≡ true)
+    unfolding wordDivides
     divides-monomials d = both-true (isMonomial l m) (isMonomial l n) (both-true (isMonomial l m && isMonomial l n) (divides (l .count) (read m) (read n)) d .0)
 
-    pub divides-exponents : isMonomial l m ≡ true → isMonomial l n ≡ true → dividesOf l m n ≡ divides (l .count) (read m) (read n)
-    unfolding dividesOf
+    pub divides-exponents : isMonomial l m ≡ true → isMonomial l n ≡ true → wordDivides l m n ≡ divides (l .count) (read m) (read n)
+    unfolding wordDivides
     divides-exponents h g = ap (λ t. t && divides (l .count) (read m) (read n)) (both h g)
 
-    quotient-word : dividesOf l m n ≡ true → m + write (over (l .count) (read n) (read m)) ≡ n
+    quotient-word : wordDivides l m n ≡ true → m + write (over (l .count) (read n) (read m)) ≡ n
     quotient-word d =
         let h = divides-monomials d in
         let q = over (l .count) (read n) (read m) in
@@ -137,7 +149,7 @@ module _ (l : Layout) where
         let f = ap write (over-mul (l .count) (read m) (read n) (sym (divides-exponents (h .0) (h .1)) ∙ d)) in
         ap (λ x. x + write q) (sym (monomial-word m (h .0))) ∙ sym e ∙ f ∙ monomial-word n (h .1)
 
-    pub divides-iff : isMonomial l m ≡ true → isMonomial l n ≡ true → (dividesOf l m n ≡ true) ↔ ((q : ℕ) × ((isMonomial l q ≡ true) × (m + q ≡ n)))
+    pub divides-iff : isMonomial l m ≡ true → isMonomial l n ≡ true → (wordDivides l m n ≡ true) ↔ ((q : ℕ) × ((isMonomial l q ≡ true) × (m + q ≡ n)))
     divides-iff h g = (
       λ d.
           let q = over (l .count) (read n) (read m) in
@@ -147,28 +159,28 @@ module _ (l : Layout) where
           divides-exponents h g ∙ ap (divides (l .count) (read m)) e ∙ divides-mul (l .count) (read m) (read (f .0)),
     )
 
-    pub divides-le : dividesOf l m n ≡ true → m ≤ n
+    pub divides-le : wordDivides l m n ≡ true → m ≤ n
     divides-le d = omega (arith, quotient-word d)
 
-    pub quotient-difference : quotientOf l n m ≡ pick (dividesOf l m n) (value (n - m)) (noValue 12)
-    quotient-difference = go (dividesOf l m n) refl
+    pub quotient-difference : wordQuotientOf l n m ≡ pick (wordDivides l m n) (value (n - m)) (noValue 12)
+    quotient-difference = go (wordDivides l m n) refl
       where
-        go : (t : Bool) → dividesOf l m n ≡ t → pick t (value (write (over (l .count) (read n) (read m)))) (noValue 12) ≡ pick t (value (n - m)) (noValue 12)
+        go : (t : Bool) → wordDivides l m n ≡ t → pick t (value (write (over (l .count) (read n) (read m)))) (noValue 12) ≡ pick t (value (n - m)) (noValue 12)
         go true d = let e : write (over (l .count) (read n) (read m)) ≡ n - m = omega (arith, quotient-word d) in λ i. value (e i)
         go false d = refl
 
-  pub sum-divides : (m n f : ℕ) → isMonomial l m ≡ true → isMonomial l n ≡ true → isMonomial l f ≡ true → dividesOf l (m + n) f ≡ divides (l .count) (times (read m) (read n)) (read f)
+  pub sum-divides : (m n f : ℕ) → isMonomial l m ≡ true → isMonomial l n ≡ true → isMonomial l f ≡ true → wordDivides l (m + n) f ≡ divides (l .count) (times (read m) (read n)) (read f)
   sum-divides m n f h g k =
       let e = ap (λ a. divides (l .count) a (read f)) (sum-exponents m n h g) in
-      same-test (dividesOf l (m + n) f) (divides (l .count) (times (read m) (read n)) (read f))
+      same-test (wordDivides l (m + n) f) (divides (l .count) (times (read m) (read n)) (read f))
       (λ d. sym (divides-exponents (m + n) f (divides-monomials (m + n) f d .0) k ∙ e) ∙ d)
       (λ d.
       let s = sum-monomial m n h g ∙ divides-fits (l .width) (l .count) (times (read m) (read n)) (read f) d (monomial-fits f k) in
       divides-exponents (m + n) f s k ∙ e ∙ d)
 
-  pub word-divides : (a b : Letters (l .count) .Mon) → fit a ≡ true → fit b ≡ true → (dividesOf l (write a) (write b) ≡ true) ↔ ((q : Letters (l .count) .Mon) × (times a q ≡ b))
+  pub word-divides : (a b : Letters (l .count) .Mon) → fit a ≡ true → fit b ≡ true → (wordDivides l (write a) (write b) ≡ true) ↔ ((q : Letters (l .count) .Mon) × (times a q ≡ b))
   word-divides a b h g =
-      let e : dividesOf l (write a) (write b) ≡ divides (l .count) a b =
+      let e : wordDivides l (write a) (write b) ≡ divides (l .count) a b =
       divides-exponents (write a) (write b) (word-monomial a h) (word-monomial b g) ∙ (λ i. divides (l .count) (word-read a h i) (word-read b g i))
       in
       rw (sym e) at (divides-quotient (l .count) a b)
@@ -201,7 +213,7 @@ coding l =
       exponents = read l;
       fitting = fit l;
       valid = isMonomial l;
-      dividing = dividesOf l;
+      dividing = wordDivides l;
       word-one = word-one (l .width) (l .count);
       word-mul = word-mul (l .width) (l .count);
       word-less = λ a b h g. word-less (l .width) (l .count) a b (fits-held (l .width) (l .count) a h) (fits-held (l .width) (l .count) b g);

@@ -15,7 +15,7 @@ use lib.Bits.{bitAnd, bitOr, or-disjoint}
 use lib.Dec.{eqb, ltb}
 use borrow.Author.Tests.{eqb-true}
 use Rattle.algebra.proofs.Tests.{both-true, both-swap}
-use Rattle.monomial.specs.Layout.{Layout, exponentsOf, fits, isMonomial, divides, dividesOf}
+use Rattle.monomial.specs.Layout.{Layout, exponentsOf, fits, isMonomial, divides, wordDivides}
 use Rattle.monomial.proofs.Fields.{or-below, either-test, guards, guards-test, guards-cover, borrow-test}
 use Rattle.monomial.proofs.Laws.{read, monomial-below, monomial-fits, monomial-test, monomial-word, divides-exponents}
 
@@ -36,8 +36,8 @@ module _ (v k : ℕ) where
   pub both-monomials : (m n : ℕ) → isMonomial fields (bitOr m n) ≡ true → (isMonomial fields m ≡ true) × (isMonomial fields n ≡ true)
   both-monomials m n h = both-true (isMonomial fields m) (isMonomial fields n) (sym (either-monomial m n) ∙ h)
 
-  pub divides-none : (m n : ℕ) → isMonomial fields (bitOr m n) ≡ false → dividesOf fields m n ≡ false
-  unfolding dividesOf
+  pub divides-none : (m n : ℕ) → isMonomial fields (bitOr m n) ≡ false → wordDivides fields m n ≡ false
+  unfolding wordDivides
   divides-none m n h = ap (λ t. t && divides k (read fields m) (read fields n)) (sym (either-monomial m n) ∙ h)
 
   pub lent-word : (n : ℕ) → isMonomial fields n ≡ true → bitOr n (guards v k) ≡ n + guards v k
@@ -48,7 +48,7 @@ module _ (v k : ℕ) where
   lent-covers m n h g =
       omega (arith, lent-word n g, monomial-word fields m h, guards-cover v k (read fields m) (monomial-fits fields m h))
 
-  pub mask-divides : (m n : ℕ) → isMonomial fields m ≡ true → isMonomial fields n ≡ true → eqb (bitAnd (bitOr n (guards v k) - m) (guards v k)) (guards v k) ≡ dividesOf fields m n
+  pub mask-divides : (m n : ℕ) → isMonomial fields m ≡ true → isMonomial fields n ≡ true → eqb (bitAnd (bitOr n (guards v k) - m) (guards v k)) (guards v k) ≡ wordDivides fields m n
   mask-divides m n h g =
       let e = lent-word n g ∙ ap (λ x. x + guards v k) (sym (monomial-word fields n g)) in
       let f = sym (monomial-word fields m h) in

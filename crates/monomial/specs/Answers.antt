@@ -1,19 +1,19 @@
 -- What each call answers: a number, 0 for done, and a value.
 --
---   packOf l m           packing the exponents of m: 4 where one is over the largest
---   listed k m           the k exponents of m as a list
---   unpackOf l word      the exponents of a word: 4, and zeros, where a guard bit is set
---   productOf l m n      the product of two words: 9 where an exponent of it is over the largest
---   quotientOf l n m     the quotient of two words: 12 where m does not divide n
---   productValue         the number and the value of each case of `Product`
---   quotientValue        the number and the value of each case of `Quotient`
+--   packOf l m              packing the exponents of m: 4 where one is over the largest
+--   listed k m              the k exponents of m as a list
+--   unpackOf l word         the exponents of a word: 4, and zeros, where a guard bit is set
+--   wordProductOf l m n     the product of two words: 9 where an exponent of it is over the largest
+--   wordQuotientOf l n m    the quotient of two words: 12 where m does not divide n
+--   productValue            the number and the value of each case of `Product`
+--   quotientValue           the number and the value of each case of `Quotient`
 use Prim.Native.Nat.{ℕ, zero, suc}
 use mathlib.Core.List.{List, [], _∷_}
 use Rattle.algebra.specs.Monomials.{Letters}
 use Rattle.algebra.specs.Residues.{pick}
 use Rattle.field.specs.declared.Value.{Value}
 use Rattle.field.specs.Answers.{value, noValue}
-use Rattle.monomial.specs.Layout.{Layout, exponentsOf, wordOf, fits, isMonomial, over, dividesOf}
+use Rattle.monomial.specs.Layout.{Layout, exponentsOf, wordOf, fits, isMonomial, over, wordDivides}
 use Rattle.monomial.specs.declared.Exponents.{Exponents}
 use Rattle.monomial.specs.declared.Product.{Product}
 use Rattle.monomial.specs.declared.Quotient.{Quotient}
@@ -34,16 +34,16 @@ unpackOf l word =
     (record { number = 4; exponents = listed (l .count) (Letters (l .count) .one) })
 
 -- A field with its guard bit set counts as an exponent over the largest, so a word that is no monomial has no product.
-abbrev pub productOf : Layout → ℕ → ℕ → Value
-productOf l m n =
+abbrev pub wordProductOf : Layout → ℕ → ℕ → Value
+wordProductOf l m n =
     let product = Letters (l .count) .mul (exponentsOf (l .width) (l .count) m) (exponentsOf (l .width) (l .count) n) in
     pick (fits (l .width) (l .count) product) (value (wordOf (l .width) (l .count) product)) (noValue 9)
 
 -- a word that is no monomial has no quotient
-abbrev pub quotientOf : Layout → ℕ → ℕ → Value
-quotientOf l n m =
+abbrev pub wordQuotientOf : Layout → ℕ → ℕ → Value
+wordQuotientOf l n m =
     let quotient = over (l .count) (exponentsOf (l .width) (l .count) n) (exponentsOf (l .width) (l .count) m) in
-    pick (dividesOf l m n) (value (wordOf (l .width) (l .count) quotient)) (noValue 12)
+    pick (wordDivides l m n) (value (wordOf (l .width) (l .count) quotient)) (noValue 12)
 
 abbrev pub productValue : Product → Value
 productValue (Product.Word w) = value w

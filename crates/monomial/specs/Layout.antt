@@ -10,7 +10,7 @@
 --   exponentOf l word v    the exponent of letter v (0 the first) in the word
 --   divides k m n          each exponent of m is at most n's
 --   over k n m             the exponents of n less those of m
---   dividesOf l m n        both words are monomials, and the first divides the second
+--   wordDivides l m n      both words are monomials, and the first divides the second
 use Prim.Native.Nat.{ℕ, zero, suc, _+_, _-_, _*_, _/_, _%_, _^_}
 use mathlib.Core.Bool.{Bool, true, _&&_}
 use lib.Dec.{leb, ltb}
@@ -55,7 +55,7 @@ abbrev pub over : (k : ℕ) → Letters k .Mon → Letters k .Mon → Letters k 
 over zero n m = tt
 over (suc k) n m = (n .0 - m .0, over k (n .1) (m .1))
 
-unfoldable pub dividesOf : Layout → ℕ → ℕ → Bool
-dividesOf l m n =
+unfoldable pub wordDivides : Layout → ℕ → ℕ → Bool
+wordDivides l m n =
     isMonomial l m && isMonomial l n
     && divides (l .count) (exponentsOf (l .width) (l .count) m) (exponentsOf (l .width) (l .count) n)

@@ -1,7 +1,7 @@
 // Words of packed exponents: x in the top sixteen bits, then y, z and t, the top bit of each sixteen a guard bit.
 ghost use mathlib.Core.Path.{_≡_};
-ghost use Rattle.monomial.specs.Layout.{base, isMonomial, exponentOf, dividesOf};
-ghost use Rattle.monomial.specs.Answers.{packOf, unpackOf, productOf, quotientOf, productValue, quotientValue};
+ghost use Rattle.monomial.specs.Layout.{base, isMonomial, exponentOf, wordDivides};
+ghost use Rattle.monomial.specs.Answers.{packOf, unpackOf, wordProductOf, wordQuotientOf, productValue, quotientValue};
 use field::Value;
 
 // The guard bit of each field.
@@ -84,7 +84,7 @@ pub fn unpack(word: u64) -> Exponents
 // The product of two monomials. With clear guard bits a field's sum stays in its field, and is over the largest exponent just
 // where it reaches the guard bit.
 pub fn multiply(m: u64, n: u64) -> Product
-    ensures { λ r. ⌜ productValue r ≡ productOf base m n ⌝ }
+    ensures { λ r. ⌜ productValue r ≡ wordProductOf base m n ⌝ }
 {
     if !is_monomial(m | n) {
         return Product::TooBig;
@@ -100,7 +100,7 @@ pub fn multiply(m: u64, n: u64) -> Product
 // Whether m divides n. A guard bit set in n keeps each field's borrow from the next, and is still there after the difference just
 // where nothing was borrowed.
 pub fn divides(m: u64, n: u64) -> bool
-    ensures { λ r. ⌜ r ≡ dividesOf base m n ⌝ }
+    ensures { λ r. ⌜ r ≡ wordDivides base m n ⌝ }
 {
     if !is_monomial(m | n) {
         return false;
@@ -110,7 +110,7 @@ pub fn divides(m: u64, n: u64) -> bool
 
 // The monomial that times m is n.
 pub fn divide(n: u64, m: u64) -> Quotient
-    ensures { λ r. ⌜ quotientValue r ≡ quotientOf base n m ⌝ }
+    ensures { λ r. ⌜ quotientValue r ≡ wordQuotientOf base n m ⌝ }
 {
     if divides(m, n) {
         Quotient::Word(n - m)

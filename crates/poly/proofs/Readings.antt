@@ -3,14 +3,12 @@
 --   termW s i           record i, its monomial a word
 --   flat f              the words of such terms
 --   codedPoly l f       a polynomial with the word of each monomial in its place
---   decodedPoly l f     the other way: the exponents of each word in its place
 --   length-span, span-append, span-one-more      n records are n terms; records after records; one record more at the end
 --   span-same           two slices with the same words have the same records
 --   span-cons           the records of a slice behind one more record in front
 --   length-flat, flat-append, records-flat       of the words of terms
 --   span-flat, span-flat-append, flat-span, flat-records      words and their records, there and back
---   span-set-after, span-set-before, span-store, span-stored  the records after a store: elsewhere, and at the end
---   length-filled, filled-span           words filled up with zero words; a slice with the records of f and then zero words
+--   span-set-after, span-store, span-stored  the records after a store: elsewhere, and at the end
 --   span-all, all-span, span-falling, falling-span, span-reduced, reduced-span      a property of every record, record by record
 --   length-poly         a slice has as many terms as records
 --   flat-coded, terms-decoded, poly-decoded      a polynomial's words are those of its coded terms; a slice's terms are its records decoded
@@ -20,7 +18,7 @@
 --   valid-span, valid-flat               a slice is Valid whose records are monomials and normal
 --   valid-words         the words of a normal polynomial that fits are Valid
 --   span-monomials, span-normal, valid-fits, valid-coded, valid-normal, valid-words-of      of a Valid slice, the other way
---   measure-terms, measure-exponents, measure-total      the profile is of the largest weights
+--   measure-exponents   the profile is of the largest weights
 --   weight-within       every term weighs at most the largest weight, as each exponent is at most the letter's largest
 use Prim.Native.Nat.{ℕ, zero, suc, _+_, _-_, _*_, _<_, _≤_}
 use mathlib.Core.Path.{_≡_, refl, sym, _∙_, ap, subst}
@@ -29,21 +27,21 @@ use mathlib.Core.List.{List, [], _∷_, _++_, append-nil}
 use mathlib.Core.Logic.{inl, inr}
 use native.Mathlib.Nat.{add-zero, zero-add, suc-add, lt-trans, eq-or-lt-of-le}
 use native.Mathlib.Omega.{arith}
-use lib.ListN.{length, getD, take, drop, set, replicate, length-append, length-drop, length-set, length-replicate, getD-replicate, take-append-drop}
-use lib.Seq.{drop-cons, take-all, getD-drop, getD-set-same, getD-set-other, ext-getD}
-use Rattle.algebra.specs.Monomials.{Letters, Numbers, exponent, degree}
+use lib.ListN.{length, getD, take, drop, set, length-append, length-set}
+use lib.Seq.{drop-cons, take-all, getD-set-same, getD-set-other}
+use Rattle.algebra.specs.Monomials.{Letters, Numbers, exponent}
 use Rattle.algebra.specs.Orders.{Rising, Lex}
 use Rattle.algebra.specs.Polynomials.{Term, term, Poly, largest, All, Below, Falling, Reduced, Normal}
 use Rattle.algebra.proofs.Degrees.{largest-all}
 use Rattle.monomial.specs.Layout.{Layout, base, isMonomial}
 use Rattle.monomial.proofs.Laws.{read, write, fit, monomial-fits, monomial-word, word-monomial, word-read, coding}
-use Rattle.poly.specs.Words.{records, wordAt, numberAt, termAt, terms, span, polyOf, wordsOf, filled}
+use Rattle.poly.specs.Words.{records, wordAt, coefAt, termAt, terms, span, decodedPoly, polyOf, wordsOf}
 use Rattle.poly.specs.Profiles.{measureOf}
 use Rattle.poly.specs.Valid.{Valid}
 use Rattle.poly.proofs.Terms.{length-terms}
 
 abbrev pub termW : List ℕ → ℕ → Term Numbers
-termW s i = term (wordAt s i) (numberAt s i)
+termW s i = term (wordAt s i) (coefAt s i)
 
 abbrev pub flat : Poly Numbers → List ℕ
 flat [] = []
@@ -52,10 +50,6 @@ flat (u ∷ f) = u .mon ∷ u .num ∷ flat f
 abbrev pub codedPoly : (l : Layout) → Poly (Letters (l .count)) → Poly Numbers
 codedPoly l [] = []
 codedPoly l (u ∷ f) = term (write l (u .mon)) (u .num) ∷ codedPoly l f
-
-abbrev pub decodedPoly : (l : Layout) → Poly Numbers → Poly (Letters (l .count))
-decodedPoly l [] = []
-decodedPoly l (u ∷ f) = term (read l (u .mon)) (u .num) ∷ decodedPoly l f
 
 -- Records
 
@@ -73,24 +67,25 @@ span-append s i (suc n) m =
 pub span-one-more : (s : List ℕ) (i n : ℕ) → span s i (n + 1) ≡ span s i n ++ (termW s (i + n) ∷ [])
 span-one-more s i n = span-append s i n 1
 
-pub span-same : (s t : List ℕ) (i j n : ℕ) → ((k : ℕ) → k < n → wordAt s (i + k) ≡ wordAt t (j + k)) → ((k : ℕ) → k < n → numberAt s (i + k) ≡ numberAt t (j + k)) → span s i n ≡ span t j n
+pub span-same : (s t : List ℕ) (i j n : ℕ) → ((k : ℕ) → k < n → wordAt s (i + k) ≡ wordAt t (j + k)) → ((k : ℕ) → k < n → coefAt s (i + k) ≡ coefAt t (j + k)) → span s i n ≡ span t j n
 span-same s t i j zero f g = refl
 span-same s t i j (suc n) f g =
     let a : (x k : ℕ) → x + suc k ≡ suc x + k = λ x k. omega arith in
     let m = (λ d. wordAt s (sym (add-zero i) d)) ∙ f 0 (omega arith) ∙ (λ d. wordAt t (add-zero j d)) in
-    let c = (λ d. numberAt s (sym (add-zero i) d)) ∙ g 0 (omega arith) ∙ (λ d. numberAt t (add-zero j d)) in
-    let rest = span-same s t (suc i) (suc j) n (λ k h. (λ d. wordAt s (sym (a i k) d)) ∙ f (suc k) (omega arith) ∙ (λ d. wordAt t (a j k d))) (λ k h. (λ d. numberAt s (sym (a i k) d)) ∙ g (suc k) (omega arith) ∙ (λ d. numberAt t (a j k d))) in
+    let c = (λ d. coefAt s (sym (add-zero i) d)) ∙ g 0 (omega arith) ∙ (λ d. coefAt t (add-zero j d)) in
+    let rest = span-same s t (suc i) (suc j) n (λ k h. (λ d. wordAt s (sym (a i k) d)) ∙ f (suc k) (omega arith) ∙ (λ d. wordAt t (a j k d)))
+    (λ k h. (λ d. coefAt s (sym (a i k) d)) ∙ g (suc k) (omega arith) ∙ (λ d. coefAt t (a j k d))) in
     λ d. term (m d) (c d) ∷ rest d
 
 module _ (m c : ℕ) (zs : List ℕ) where
   word-cons : (i : ℕ) → wordAt (m ∷ c ∷ zs) (suc i) ≡ wordAt zs i
   word-cons i = let e : 2 * suc i ≡ suc (suc (2 * i)) = omega arith in ap (λ x. getD (m ∷ c ∷ zs) x 0) e
 
-  number-cons : (i : ℕ) → numberAt (m ∷ c ∷ zs) (suc i) ≡ numberAt zs i
-  number-cons i = let e : 2 * suc i + 1 ≡ suc (suc (2 * i + 1)) = omega arith in ap (λ x. getD (m ∷ c ∷ zs) x 0) e
+  coef-cons : (i : ℕ) → coefAt (m ∷ c ∷ zs) (suc i) ≡ coefAt zs i
+  coef-cons i = let e : 2 * suc i + 1 ≡ suc (suc (2 * i + 1)) = omega arith in ap (λ x. getD (m ∷ c ∷ zs) x 0) e
 
   pub span-cons : (i n : ℕ) → span (m ∷ c ∷ zs) (suc i) n ≡ span zs i n
-  span-cons i n = span-same (m ∷ c ∷ zs) zs (suc i) i n (λ k h. ap (wordAt (m ∷ c ∷ zs)) (suc-add i k) ∙ word-cons (i + k)) (λ k h. ap (numberAt (m ∷ c ∷ zs)) (suc-add i k) ∙ number-cons (i + k))
+  span-cons i n = span-same (m ∷ c ∷ zs) zs (suc i) i n (λ k h. ap (wordAt (m ∷ c ∷ zs)) (suc-add i k) ∙ word-cons (i + k)) (λ k h. ap (coefAt (m ∷ c ∷ zs)) (suc-add i k) ∙ coef-cons (i + k))
 
 -- Words of terms
 
@@ -121,8 +116,9 @@ flat-span s i (suc n) h =
     let e : suc (suc (2 * n)) ≡ 2 * suc n = omega arith in
     let a : suc (2 * i) ≡ 2 * i + 1 = omega arith in
     let b : suc (2 * i + 1) ≡ 2 * suc i = omega arith in
-    let d : drop (2 * i) s ≡ wordAt s i ∷ numberAt s i ∷ drop (2 * suc i) s = drop-cons s (2 * i) 0 (omega arith) ∙ ap (λ x. wordAt s i ∷ x) (ap (λ x. drop x s) a ∙ drop-cons s (2 * i + 1) 0 (omega arith) ∙ ap (λ x. numberAt s i ∷ drop x s) b) in
-    ap (λ x. wordAt s i ∷ numberAt s i ∷ x) (flat-span s (suc i) n (omega arith)) ∙ ap (λ x. take (suc (suc (2 * n))) x) (sym d) ∙ ap (λ x. take x (drop (2 * i) s)) e
+    let d : drop (2 * i) s ≡ wordAt s i ∷ coefAt s i ∷ drop (2 * suc i) s = drop-cons s (2 * i) 0 (omega arith)
+    ∙ ap (λ x. wordAt s i ∷ x) (ap (λ x. drop x s) a ∙ drop-cons s (2 * i + 1) 0 (omega arith) ∙ ap (λ x. coefAt s i ∷ drop x s) b) in
+    ap (λ x. wordAt s i ∷ coefAt s i ∷ x) (flat-span s (suc i) n (omega arith)) ∙ ap (λ x. take (suc (suc (2 * n))) x) (sym d) ∙ ap (λ x. take x (drop (2 * i) s)) e
 
 pub flat-records : (s : List ℕ) → length s ≡ 2 * records s → flat (span s 0 (records s)) ≡ s
 flat-records s h = flat-span s 0 (records s) (omega arith) ∙ take-all (2 * records s) s (omega arith)
@@ -136,12 +132,6 @@ module _ (s : List ℕ) (i n j a : ℕ) where
       (λ k l. getD-set-other s j (2 * (i + k)) a 0 (λ e. omega arith))
       (λ k l. getD-set-other s j (2 * (i + k) + 1) a 0 (λ e. omega arith))
 
-  pub span-set-before : j < 2 * i → span (set s j a) i n ≡ span s i n
-  span-set-before h =
-      span-same (set s j a) s i i n
-      (λ k l. getD-set-other s j (2 * (i + k)) a 0 (λ e. omega arith))
-      (λ k l. getD-set-other s j (2 * (i + k) + 1) a 0 (λ e. omega arith))
-
 -- a record stored behind the n from i on
 pub span-store : (s : List ℕ) (i n m c : ℕ) → 2 * (i + n) + 1 < length s → span (set (set s (2 * (i + n)) m) (2 * (i + n) + 1) c) i (n + 1) ≡ span s i n ++ (term m c ∷ [])
 span-store s i n m c h =
@@ -150,29 +140,14 @@ span-store s i n m c h =
     let r = set t (at + 1) c in
     let front : span r i n ≡ span s i n = span-set-after t i n (at + 1) c (omega arith) ∙ span-set-after s i n at m (omega arith) in
     let word : wordAt r (i + n) ≡ m = getD-set-other t (at + 1) at c 0 (λ e. omega arith) ∙ getD-set-same s at m 0 (omega arith) in
-    let number : numberAt r (i + n) ≡ c = getD-set-same t (at + 1) c 0 (rw length-set (omega arith)) in
-    span-one-more r i n ∙ (λ d. front d ++ (term (word d) (number d) ∷ []))
+    let coef : coefAt r (i + n) ≡ c = getD-set-same t (at + 1) c 0 (rw length-set (omega arith)) in
+    span-one-more r i n ∙ (λ d. front d ++ (term (word d) (coef d) ∷ []))
 
 pub span-stored : (s : List ℕ) (n m c : ℕ) → 2 * n + 1 < length s → span (set (set s (2 * n) m) (2 * n + 1) c) 0 (n + 1) ≡ span s 0 n ++ (term m c ∷ [])
 span-stored s n m c h =
     rw (zero-add n) at (span-store s 0 n m c (omega arith))
 
 -- Words filled up with zero words
-
-pub length-filled : (n : ℕ) (ws : List ℕ) → length ws ≤ n → length (filled n ws) ≡ n
-length-filled n ws h = omega (arith, length-append ws (replicate {A = ℕ} (n - length ws) 0), length-replicate {A = ℕ} (n - length ws) 0)
-
--- a slice that has the records of f and then zero words, as a call leaves its output
-pub filled-span : (s : List ℕ) (f : Poly Numbers) → span s 0 (length f) ≡ f → 2 * length f ≤ length s → ((j : ℕ) → 2 * length f ≤ j → j < length s → getD s j 0 ≡ 0) → s ≡ filled (length s) (flat f)
-filled-span s f e h zeros =
-    let n = 2 * length f in
-    let m = length s - length (flat f) in
-    let l : length (flat f) ≡ n = length-flat f in
-    let front : take n s ≡ flat f = sym (flat-span s 0 (length f) (omega arith)) ∙ ap flat e in
-    let d : length (drop n s) ≡ length s - n = length-drop n s in
-    let r : length (replicate {A = ℕ} m 0) ≡ m = length-replicate m 0 in
-    let back : drop n s ≡ replicate m 0 = ext-getD 0 (drop n s) (replicate m 0) (omega arith) (λ i k. getD-drop n s i 0 ∙ zeros (n + i) (omega arith) (omega arith) ∙ sym (getD-replicate m i 0 0 (omega arith))) in
-    sym (take-append-drop n s) ∙ (λ i. front i ++ back i)
 
 -- Properties of every record
 
@@ -218,17 +193,17 @@ module _ (s : List ℕ) where
       ]
 
   module _ (p : ℕ) where
-    pub span-reduced : (i n : ℕ) → ((k : ℕ) → i ≤ k → k < i + n → (0 < numberAt s k) × (numberAt s k < p)) → Reduced p (span s i n)
+    pub span-reduced : (i n : ℕ) → ((k : ℕ) → i ≤ k → k < i + n → (0 < coefAt s k) × (coefAt s k < p)) → Reduced p (span s i n)
     span-reduced i zero f = tt
     span-reduced i (suc n) f =
         let here = f i (omega arith) (omega arith) in
         (here .0, here .1, span-reduced (suc i) n (λ k h l. f k (omega arith) (omega arith)))
 
-    pub reduced-span : (i n : ℕ) → Reduced p (span s i n) → (k : ℕ) → i ≤ k → k < i + n → (0 < numberAt s k) × (numberAt s k < p)
+    pub reduced-span : (i n : ℕ) → Reduced p (span s i n) → (k : ℕ) → i ≤ k → k < i + n → (0 < coefAt s k) × (coefAt s k < p)
     reduced-span i zero a k h l = absurd (omega arith)
     reduced-span i (suc n) a k h l =
         elim (eq-or-lt-of-le h) [
-          | inl e ↦ subst (λ x. (0 < numberAt s x) × (numberAt s x < p)) e (a .0, a .1)
+          | inl e ↦ subst (λ x. (0 < coefAt s x) × (coefAt s x < p)) e (a .0, a .1)
           | inr g ↦ reduced-span (suc i) n (a .2) k g (omega arith)
         ]
 
@@ -336,7 +311,7 @@ valid-span p s e a n =
       even = e;
       monomials = λ i h. all-span (λ m. isMonomial base m ≡ true) s 0 (records s) a i (omega arith) (omega arith);
       falls = λ i h. falling-span s 0 (records s) (n .falling) i (omega arith) (omega arith);
-      numbers = λ i h. reduced-span s p 0 (records s) (n .reduced) i (omega arith) (omega arith);
+      coefs = λ i h. reduced-span s p 0 (records s) (n .reduced) i (omega arith) (omega arith);
     }
 
 module _ (p : ℕ) (s : List ℕ) (v : Valid p s) where
@@ -347,7 +322,7 @@ module _ (p : ℕ) (s : List ℕ) (v : Valid p s) where
   span-normal =
       record {
         falling = span-falling s 0 (records s) (λ j h g. v .falls j (omega arith));
-        reduced = span-reduced s p 0 (records s) (λ k h g. v .numbers k (omega arith));
+        reduced = span-reduced s p 0 (records s) (λ k h g. v .coefs k (omega arith));
       }
 
   pub valid-fits : All (λ m. fit base m ≡ true) (polyOf base s)
@@ -374,10 +349,6 @@ valid-words p f a n = subst (Valid p) (flat-coded base f) (valid-flat p (codedPo
 -- The profile
 
 module _ (s : List ℕ) where
-  pub measure-terms : measureOf s .terms ≡ records s
-  unfolding measureOf
-  measure-terms = refl
-
   pub measure-exponents : (v : ℕ) → v < 4 → getD (measureOf s .exponents) v 0 ≡ largest (exponent 4 v) (polyOf base s)
   unfolding measureOf
   measure-exponents zero h = refl
@@ -385,10 +356,6 @@ module _ (s : List ℕ) where
   measure-exponents (suc (suc zero)) h = refl
   measure-exponents (suc (suc (suc zero))) h = refl
   measure-exponents (suc (suc (suc (suc v)))) h = absurd (omega arith)
-
-  pub measure-total : measureOf s .total ≡ largest (degree 4) (polyOf base s)
-  unfolding measureOf
-  measure-total = refl
 
   -- every term weighs at most the largest weight
   pub weight-within : (w : Letters 4 .Mon → ℕ) (i : ℕ) → i < records s → w (read base (wordAt s i)) ≤ largest w (polyOf base s)

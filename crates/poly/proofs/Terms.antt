@@ -21,7 +21,8 @@ module _ (l : Layout) where
   length-terms s i zero = refl
   length-terms s i (suc n) = ap suc (length-terms s (suc i) n)
 
-  pub largest-down : (w : Letters (l .count) .Mon → ℕ) (s : List ℕ) (i n : ℕ) {e m r : ℕ} → 0 < i → i ≤ n → r ≡ max e m → e ≡ w (exponentsOf (l .width) (l .count) (wordAt s (i - 1))) → m ≡ largest w (terms l s i (n - i)) → r ≡ largest w (terms l s (i - 1) (n - (i - 1)))
+  pub largest-down : (w : Letters (l .count) .Mon → ℕ) (s : List ℕ) (i n : ℕ) {e m r : ℕ} → 0 < i → i ≤ n → r ≡ max e m →
+      e ≡ w (exponentsOf (l .width) (l .count) (wordAt s (i - 1))) → m ≡ largest w (terms l s i (n - i)) → r ≡ largest w (terms l s (i - 1) (n - (i - 1)))
   largest-down w s i n h k er ee em =
       let up : i ≡ suc (i - 1) = omega arith in
       let more : suc (n - i) ≡ n - (i - 1) = omega arith in

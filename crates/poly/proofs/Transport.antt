@@ -4,8 +4,6 @@
 --   coded-named         a polynomial with its words is one with its names
 --   coded-norm          the words of the normal form are the normal form of the words
 --   coded-mul, coded-negated    of products and negatives
---   room-done           a room that holds the terms of f, and zeros after them, is as `inRoom` says
---   room-full           a room that is too small is
 --   filled-poly         the polynomial in a room that was filled with the words of one
 use Prim.Native.Nat.{ℕ, _-_, _*_, _<_}
 use mathlib.Core.Path.{_≡_, refl, sym, _∙_, ap}
@@ -19,8 +17,8 @@ use Rattle.algebra.specs.Polynomials.{term, Poly, mul, negated, norm, All, time
 use Rattle.algebra.proofs.Coding.{Named, named, named-mul, named-negated, named-norm}
 use Rattle.monomial.specs.Layout.{base, isMonomial}
 use Rattle.monomial.proofs.Laws.{write, fit, coding, read, sum-exponents}
-use Rattle.poly.specs.Words.{polyOf, wordsOf, filled}
-use Rattle.poly.proofs.Readings.{codedPoly, flat-coded, length-flat, length-coded, poly-words, decodedPoly}
+use Rattle.poly.specs.Words.{Monomial, polyOf, wordsOf, filled, decodedPoly}
+use Rattle.poly.proofs.Readings.{codedPoly, flat-coded, length-flat, length-coded, poly-words}
 
 abbrev pub names : Named (Lex 4) Rising
 names =
@@ -48,10 +46,6 @@ pub filled-poly : (f : Poly (Letters 4)) (n : ℕ) → All (λ m. fit base m ≡
 filled-poly f n fits =
     let long : length (wordsOf base f) ≡ 2 * length f = ap length (sym (flat-coded base f)) ∙ length-flat (codedPoly base f) ∙ ap (λ (k : ℕ). 2 * k) (length-coded base f) in
     ap (polyOf base) (take-at (wordsOf base f) (replicate (n - length (wordsOf base f)) 0) (2 * length f) long) ∙ poly-words base f fits
-
--- every monomial is a monomial word
-abbrev pub Monomial : Poly Numbers → Type 0
-Monomial f = All {K = Numbers} (λ m. isMonomial base m ≡ true) f
 
 pub decoded-negated : (p : ℕ) (f : Poly Numbers) → decodedPoly base (negated p f) ≡ negated p (decodedPoly base f)
 decoded-negated p [] = refl

@@ -1,4 +1,5 @@
 // Polynomials in memory: records of words, rooms, keys, the largest exponents.
 pub mod keys;
+pub mod numbers;
 pub mod profile;
 pub mod room;

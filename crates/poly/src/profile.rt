@@ -1,10 +1,10 @@
 // The profile of a polynomial.
 ghost use mathlib.Core.Path.{_≡_};
 ghost use mathlib.Core.Bool.{true};
-ghost use Prim.Native.Nat.{max};
 ghost use Rattle.monomial.specs.Layout.{base, fits, wordOf};
 ghost use Rattle.poly.specs.Words.{polyOf};
 ghost use Rattle.poly.specs.Profiles.{measureOf, maxima};
+use crate::numbers::greater;
 use monomial::pack;
 
 // The term count, the largest exponents of x, y, z and t, and the largest total degree.
@@ -44,12 +44,6 @@ pub fn measure(s: &[u64]) -> Profile
         exponents: [x, y, z, t],
         total,
     }
-}
-
-fn greater(a: u64, b: u64) -> u64
-    ensures { λ r. ⌜ r ≡ max a b ⌝ }
-{
-    if a < b { b } else { a }
 }
 
 // The word of the largest exponents of a polynomial.

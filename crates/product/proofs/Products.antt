@@ -1,42 +1,67 @@
 -- The product, one law for each way out.
 --
---   all-cleared             an array cleared from its first word on
---   product-coded           the words of the product's normal form, where no letter bursts
---   ends-burst, ends-zero, ends-done, ends-full     9; a factor is zero; the product is in the room; 10
---   factors-exchanged       which factor is the first makes no difference
+--   product-coded            the words of the product's normal form, where no letter bursts
+--   taken-step               a monomial that is taken out of the tree is a step of filling
+--   nothing-filled           a factor without terms gives a product without terms
+--   ends-burst, ends-filled  a product that bursts; one whose terms were counted into the room
+--   factors-exchanged        which factor is the first makes no difference
 --   product-refused, product-goes-on, work-suffices      the call with a refusal due, and with none
-use Prim.Native.Nat.{ℕ, _-_, _*_, _/_, _<_, _≤_, min}
+use Prim.Native.Nat.{ℕ, suc, _-_, _*_, _<_, _≤_, min}
 use mathlib.Core.Path.{_≡_, refl, sym, _∙_, ap}
-use mathlib.Core.List.{List, [], _∷_, _++_}
-use native.Mathlib.Nat.{sub-zero}
+use mathlib.Core.Bool.{Bool}
+use mathlib.Core.List.{List, [], _∷_}
 use native.Mathlib.Omega.{arith}
 use lib.Dec.{ltb}
-use lib.ListN.{length, take, replicate}
+use lib.ListN.{length}
 use borrow.Author.Tests.{lt-ltb, le-ltb}
 use Rattle.algebra.specs.Residues.{pick}
-use Rattle.algebra.specs.Monomials.{Letters}
+use Rattle.algebra.specs.Monomials.{Letters, Numbers}
 use Rattle.algebra.specs.Orders.{Lex, Rising}
 use Rattle.algebra.specs.Polynomials.{Poly, mul, norm}
 use Rattle.algebra.proofs.NormalForm.{norm-unique}
 use Rattle.algebra.proofs.Ring.{mul-comm}
 use Rattle.monomial.specs.Layout.{base}
-use Rattle.poly.specs.Words.{records, span, terms, polyOf, cleared}
-use Rattle.refusals.specs.Reports.{none, done, refusal, orElse, firstOr}
-use Rattle.refusals.specs.Rules.{workRule}
-use Rattle.refusals.proofs.Reports.{fold-passed}
-use Rattle.refusals.proofs.Accepted.{work-passed}
+use Rattle.poly.specs.Words.{records, wordAt, span, polyOf, cleared}
 use Rattle.poly.specs.Valid.{Valid}
-use Rattle.refusals.specs.declared.report.Report.{Report}
-use Rattle.poly.proofs.Readings.{codedPoly, length-coded, length-span, valid-coded}
-use Rattle.calls.specs.Outcomes.{Outcome, outcome, inRoom}
-use Rattle.calls.specs.Inputs.{twoInputs}
-use Rattle.product.specs.Products.{burstAt, multiplied, productOf}
-use Rattle.tree.specs.Tree.{left, Started}
-use Rattle.product.specs.Filling.{Filled}
-use Rattle.calls.proofs.Refusals.{refused-tells, passed-goes-on}
-use Rattle.product.proofs.Bursts.{burst-comm, products-fit}
+use Rattle.poly.proofs.Readings.{codedPoly, valid-coded}
 use Rattle.poly.proofs.Transport.{coded-mul, coded-norm}
-use Rattle.calls.proofs.Rooms.{room-done, room-full}
+use Rattle.refusals.specs.Reports.{none, orElse, firstOr}
+use Rattle.refusals.specs.Rules.{workRule}
+use Rattle.refusals.specs.declared.report.Report.{Report}
+use Rattle.refusals.proofs.Reports.{fold-append, fold-passed}
+use Rattle.refusals.proofs.Accepted.{work-passed}
+use Rattle.calls.specs.Inputs.{twoInputs}
+use Rattle.calls.specs.Outcomes.{Outcome, outcome, told, ended, roomReply}
+use Rattle.calls.specs.Endings.{kept, Filled}
+use Rattle.calls.proofs.Refusals.{refused-tells, passed-goes-on}
+use Rattle.calls.proofs.Filling.{Step}
+use Rattle.calls.proofs.Rooms.{Written, written-count, kept-holds, holding-none, ended-by, filled-reply, filled-written}
+use Rattle.tree.specs.Tree.{awaited, Taken}
+use Rattle.tree.proofs.Planting.{awaited-below}
+use Rattle.product.specs.Products.{burstAt, productRules, multiplied, productOf}
+use Rattle.product.proofs.Bursts.{burst-comm, products-fit}
+
+-- all that waits in a tree
+abbrev pub waiting : List ℕ → List ℕ → List ℕ → Poly Numbers
+waiting rows cols w = awaited rows cols w 0 (records rows)
+
+pub taken-step : (p : ℕ) (rows cols : List ℕ) → ((i : ℕ) → suc i < records cols → wordAt cols (suc i) < wordAt cols i) → (w w′ : List ℕ) (c : ℕ) →
+    Taken p rows cols (wordAt w 1) w w′ c → Step p (waiting rows cols w) (wordAt w 1 - 1) c (waiting rows cols w′)
+taken-step p rows cols falls w w′ c t =
+    let low : wordAt w′ 1 < wordAt w 1 = t .lower falls (omega arith) in
+    record {
+      small = t .small;
+      sums = t .sums;
+      lower = awaited-below rows cols w′ (t .live) falls (wordAt w 1 - 1) (omega arith);
+    }
+
+pub nothing-filled : (p : ℕ) (rows cols room : List ℕ) → records rows ≡ 0 →
+    Filled p (mul (span rows 0 (records rows)) (span cols 0 (records cols))) room room 0
+nothing-filled p rows cols room z =
+    record {
+      fits = λ k. sym (ap (λ n. norm Rising p (mul (span rows 0 n) (span cols 0 (records cols)))) z);
+      full = λ k. absurd (omega arith);
+    }
 
 module _ (p : ℕ) (rows cols room work : List ℕ) where
   abbrev first : Poly (Letters 4)
@@ -48,77 +73,65 @@ module _ (p : ℕ) (rows cols room work : List ℕ) where
   abbrev whole : Poly (Letters 4)
   whole = norm (Lex 4) p (mul first second)
 
-  not-burst : 4 ≤ burstAt first second → inRoom whole room work ≡ multiplied p rows cols room work
-  unfolding multiplied
-  not-burst h =
-      ap (λ b. pick b (outcome (refusal 9 0 0) (cleared room) (cleared work)) (inRoom whole room work))
-      (sym (le-ltb (burstAt first second) 4 h))
+  -- what the product leaves with a reply
+  abbrev by-reply : ℕ → Outcome
+  by-reply reply = ended reply whole [] room [] work
 
-  pub ends-burst : burstAt first second < 4 → (room′ work′ : List ℕ) (r : Report) → room′ ≡ cleared room → work′ ≡ cleared work → r ≡ refusal 9 0 0 → outcome r room′ work′ ≡ multiplied p rows cols room work
+  pub ends-burst : burstAt first second < 4 → (o : Outcome) → o ≡ outcome (told 9 0 0) (kept 9 0 room) [] (cleared work) → o ≡ multiplied p rows cols room work
   unfolding multiplied
-  ends-burst h room′ work′ r e f g =
-      (λ d. outcome (g d) (e d) (f d))
-      ∙ ap (λ b. pick b (outcome (refusal 9 0 0) (cleared room) (cleared work)) (inRoom whole room work))
-      (sym (lt-ltb (burstAt first second) 4 h))
-
-  pub ends-zero : 4 ≤ burstAt first second → records rows ≡ 0 → (room′ work′ : List ℕ) (r : Report) → room′ ≡ cleared room → work′ ≡ cleared work → r ≡ done 0 0 → outcome r room′ work′ ≡ multiplied p rows cols room work
-  unfolding polyOf
-  ends-zero h z room′ work′ r e f g =
-      let none : whole ≡ [] = ap (λ n. norm (Lex 4) p (mul (terms base rows 0 n) second)) z in
-      (λ d. outcome (g d) ((e ∙ ap (λ (n : ℕ). replicate n 0) (sym (sub-zero (length room)))) d) (f d))
-      ∙ room-done [] room work room 0 refl (omega arith) refl refl
-      ∙ ap (λ (k : Poly (Letters 4)). inRoom k room work) (sym none)
-      ∙ not-burst h
+  ends-burst h o e =
+      e ∙ ap (λ (b : Bool). by-reply (pick b 9 (roomReply (length whole) room))) (sym (lt-ltb (burstAt first second) 4 h))
 
   module _ (pos : 0 < p) (vr : Valid p rows) (vc : Valid p cols) (h : 4 ≤ burstAt first second) where
-    pub product-coded : codedPoly base whole ≡ norm Rising p (mul (span rows 0 (records rows)) (span cols 0 (records cols)))
+    -- the products of all terms
+    abbrev products : Poly Numbers
+    products = mul (span rows 0 (records rows)) (span cols 0 (records cols))
+
+    pub product-coded : codedPoly base whole ≡ norm Rising p products
     product-coded =
         coded-norm p pos (mul first second) (products-fit first second h)
         ∙ ap (norm Rising p) (coded-mul first second ∙ (λ d. mul (valid-coded p rows vr d) (valid-coded p cols vc d)))
 
-    -- what the tree waited for, in its normal form
-    started : (w : List ℕ) → Started rows cols work w → codedPoly base whole ≡ norm Rising p (left rows cols w 0 (records rows))
-    started w s = product-coded ∙ ap (norm Rising p) (sym (s .whole))
-
-    pub ends-done : (w s : List ℕ) (n : ℕ) → Started rows cols work w → Filled p rows cols w room s n → length s ≡ length room → n ≤ records s → (room′ work′ : List ℕ) (r : Report) → room′ ≡ take (2 * n) s ++ replicate (length s - 2 * n) 0 → work′ ≡ cleared work → r ≡ done n 0 → outcome r room′ work′ ≡ multiplied p rows cols room work
-    ends-done w s n st fd same fits room′ work′ r e f g =
-        let inside : n ≤ records room = omega (arith, ap (λ (x : ℕ). x / 2) same) in
-        let words : codedPoly base whole ≡ span s 0 n = started w st ∙ sym (fd .fits inside) in
-        let count : length whole ≡ n = sym (length-coded base whole) ∙ ap length words ∙ length-span s 0 n in
-        (λ d. outcome (g d) (e d) (f d)) ∙ room-done whole room work s n same inside words count ∙ not-burst h
-
-    pub ends-full : (w s : List ℕ) (n : ℕ) → Started rows cols work w → Filled p rows cols w room s n → length s ≡ length room → records s < n → (room′ work′ : List ℕ) (r : Report) → room′ ≡ cleared room → work′ ≡ cleared work → r ≡ refusal 10 0 0 → outcome r room′ work′ ≡ multiplied p rows cols room work
-    ends-full w s n st fd same over room′ work′ r e f g =
-        let outside : records room < n = omega (arith, ap (λ (x : ℕ). x / 2) same) in
-        let long : records room < length whole = omega (arith, fd .full outside, ap length (started w st), length-coded base whole) in
-        (λ d. outcome (g d) (e d) (f d)) ∙ room-full whole room work long ∙ not-burst h
+    pub ends-filled : (s : List ℕ) (n reply : ℕ) → length s ≡ length room → Filled p products room s n → reply ≡ roomReply n s → (o : Outcome) →
+        o ≡ outcome (told reply n 0) (kept reply n s) [] (cleared work) → o ≡ multiplied p rows cols room work
+    unfolding multiplied
+    ends-filled s n reply same F er o e =
+        let W : reply ≡ 0 → Written whole s n = λ z. filled-written p whole products product-coded room s n F same (sym er ∙ z) in
+        e
+        ∙ ended-by reply whole [] room [] work _ _ [] _ n 0 refl (λ z. written-count (W z)) (λ z. refl)
+        (kept-holds reply whole room s _ n same W refl) (sym (holding-none reply)) refl
+        ∙ ap by-reply
+        (er
+        ∙ filled-reply p whole products product-coded room s n F same
+        ∙ ap (λ (b : Bool). pick b 9 (roomReply (length whole) room)) (sym (le-ltb (burstAt first second) 4 h)))
 
 pub factors-exchanged : (p : ℕ) → 0 < p → (a b room work : List ℕ) → multiplied p a b room work ≡ multiplied p b a room work
 unfolding multiplied
 factors-exchanged p pos a b room work =
     let f = polyOf base a in
     let g = polyOf base b in
-    λ d. pick (ltb (burst-comm f g d) 4) (outcome (refusal 9 0 0) (cleared room) (cleared work)) (inRoom (norm-unique (Lex 4) pos (mul-comm f g) d) room work)
+    let same = norm-unique (Lex 4) pos (mul-comm f g) in
+    λ d. ended (pick (ltb (burst-comm f g d) 4) 9 (roomReply (length (same d)) room)) (same d) [] room [] work
 
 -- The call: refused, or multiplied
 
-module _ (p : ℕ) (a b room work : List ℕ) (r last : Report) (least : ℕ) (n : least ≡ 4 * min (records a) (records b)) (e : r ≡ firstOr (twoInputs p a b room) last) (f : last ≡ orElse (workRule least work) none) where
-  abbrev rules : List Report
-  rules = twoInputs p a b room ++ (workRule (4 * min (records a) (records b)) work ∷ [])
+module _ (p : ℕ) (a b room work : List ℕ) (r last : Report) (least : ℕ) (n : least ≡ 4 * min (records a) (records b))
+    (e : r ≡ firstOr (twoInputs p a b room) last) (f : last ≡ orElse (workRule least work) none) where
+  due : r ≡ firstOr (productRules p a b room work) none
+  due =
+      e
+      ∙ ap (firstOr (twoInputs p a b room)) (f ∙ ap (λ x. orElse (workRule x work) none) n)
+      ∙ sym (fold-append (twoInputs p a b room) (workRule (4 * min (records a) (records b)) work ∷ []) none)
 
-  due : r ≡ firstOr rules none
-  due = e ∙ ap (firstOr (twoInputs p a b room)) (f ∙ ap (λ x. orElse (workRule x work) none) n)
-
-  pub product-refused : (r .number ≡ 0 → ⊥) → outcome r room work ≡ productOf p a b room work
+  pub product-refused : (r .number ≡ 0 → ⊥) → outcome r room [] work ≡ productOf p a b room work
   unfolding productOf
-  product-refused k = refused-tells rules r none due refl room work (multiplied p a b room work) k
+  product-refused k = refused-tells (productRules p a b room work) r due room [] work (multiplied p a b room work) k
 
   pub product-goes-on : (o : Outcome) → r .number ≡ 0 → o ≡ multiplied p a b room work → o ≡ productOf p a b room work
   unfolding productOf
-  product-goes-on o z g = g ∙ passed-goes-on rules r none due refl room work (multiplied p a b room work) z
+  product-goes-on o z g = g ∙ passed-goes-on (productRules p a b room work) r due room [] work (multiplied p a b room work) z
 
-  pub work-suffices : r .number ≡ 0 → 4 * min (records a) (records b) ≤ length work
+  pub work-suffices : last .number ≡ 0 → 4 * min (records a) (records b) ≤ length work
   work-suffices z =
-      let passed : last .number ≡ 0 = fold-passed (twoInputs p a b room) last (ap (λ (x : Report). x .number) (sym e) ∙ z) .1 in
-      let rule : workRule least work .number ≡ 0 = fold-passed (workRule least work ∷ []) none (ap (λ (x : Report). x .number) (sym f) ∙ passed) .0 .0 in
+      let rule : workRule least work .number ≡ 0 = fold-passed (workRule least work ∷ []) none (ap (λ (x : Report). x .number) (sym f) ∙ z) .0 .0 in
       omega (arith, work-passed least work rule, n)

@@ -1,3 +1,2 @@
--- The product. Read in this order.
+-- The product.
 pub mod Products
-pub mod Filling

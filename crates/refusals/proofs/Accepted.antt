@@ -11,10 +11,6 @@
 --   NAME-own           the report of the rule NAME has no number but 0 and its own
 --   shapes-passed, passed-shapes             the same of 2 and 3 over some lent slices
 --   refusals-accepted, accepted-refusals     the same of 1 to 6 over a call
---   fold-accepted      a call whose fold refuses nothing is Accepted, and the rules after 6 passed too
---   accepted-fold      of a call that is Accepted, the fold answers what the rules after 6 do
---   check-passed, check-valid      the check passes just where p is a modulus and the slice is Valid and within 4096 terms
---   check-tells-1 .. check-tells-6      each refusal of the check is told just where its rule says so and none before it is due
 use Prim.Native.Nat.{ℕ, zero, suc, _*_, _%_, _<_, _≤_}
 use mathlib.Core.Path.{_≡_, refl, sym, _∙_, ap}
 use mathlib.Core.Bool.{Bool, true, false, not, _||_}
@@ -24,17 +20,36 @@ use native.Mathlib.Omega.{arith}
 use lib.Dec.{eqb, leb, ltb}
 use lib.ListN.{length}
 use borrow.Author.Tests.{ltb-true, ltb-false, leb-true, leb-false, eqb-true, eqb-false, not-false, lt-ltb, le-ltb, le-leb, lt-leb, eq-eqb, ne-eqb}
-use Rattle.algebra.specs.Residues.{pick, first}
+use Rattle.algebra.specs.Residues.{pick, first, FirstOf}
 use Rattle.algebra.proofs.Tests.{neither}
 use Rattle.algebra.proofs.Scan.{first-hit, first-miss, first-unique}
 use Rattle.field.specs.Moduli.{isModulus}
 use Rattle.monomial.specs.Layout.{base, isMonomial}
-use Rattle.poly.specs.Words.{records, wordAt, numberAt}
-use Rattle.refusals.specs.Reports.{none, refusal, firstOr, Passed}
-use Rattle.refusals.specs.Rules.{unless, atTerm, guardAt, orderAt, badNumberAt, modulusRule, oddRule, longRule, guardRule, orderRule, numberRule, divisorRule, workRule, Lent, shapeRules, orderRules, numberRules, refusals}
-use Rattle.poly.specs.Valid.{Valid, FirstOf}
+use Rattle.poly.specs.Words.{records, wordAt, coefAt}
+use Rattle.refusals.specs.Reports.{none, refusal, Passed}
+use Rattle.refusals.specs.Rules.{
+  unless,
+  atTerm,
+  guardAt,
+  orderAt,
+  badCoefAt,
+  modulusRule,
+  oddRule,
+  longRule,
+  guardRule,
+  orderRule,
+  coefRule,
+  divisorRule,
+  workRule,
+  Lent,
+  shapeRules,
+  orderRules,
+  coefRules,
+  refusals,
+}
+use Rattle.poly.specs.Valid.{Valid}
 use Rattle.refusals.specs.declared.report.Report.{Report}
-use Rattle.refusals.proofs.Reports.{Own, passed-append, append-passed, fold-append, fold-passed, passed-fold}
+use Rattle.refusals.proofs.Reports.{Own, passed-append, append-passed}
 
 pub record Shaped (s : Lent) : Type 0 where
   pub even : length (s .words) ≡ 2 * records (s .words)
@@ -195,43 +210,35 @@ module _ (operand : ℕ) (s : List ℕ) where
   order-own = found-own (orderAt s) 5 operand (records s)
 
   module _ (p : ℕ) where
-    pub number-passed : numberRule p operand s .number ≡ 0 → (i : ℕ) → i < records s → (0 < numberAt s i) × (numberAt s i < p)
-    unfolding numberRule badNumberAt
-    number-passed e i h =
-        let c = numberAt s i in
-        let k = neither (eqb c 0) (leb p c) (found-passed (badNumberAt p s) 6 operand (records s) (omega arith) e i h) in
+    pub coef-passed : coefRule p operand s .number ≡ 0 → (i : ℕ) → i < records s → (0 < coefAt s i) × (coefAt s i < p)
+    unfolding coefRule badCoefAt
+    coef-passed e i h =
+        let c = coefAt s i in
+        let k = neither (eqb c 0) (leb p c) (found-passed (badCoefAt p s) 6 operand (records s) (omega arith) e i h) in
         let z : c ≡ 0 → ⊥ = eqb-false c 0 (k .0) in
         (omega arith, leb-false p c (k .1))
 
-    pub passed-number : ((i : ℕ) → i < records s → (0 < numberAt s i) × (numberAt s i < p)) → numberRule p operand s ≡ none
-    unfolding numberRule badNumberAt
-    passed-number f =
-        passed-found (badNumberAt p s) 6 operand (records s)
+    pub passed-coef : ((i : ℕ) → i < records s → (0 < coefAt s i) × (coefAt s i < p)) → coefRule p operand s ≡ none
+    unfolding coefRule badCoefAt
+    passed-coef f =
+        passed-found (badCoefAt p s) 6 operand (records s)
         (λ i h. let k = f i h in
-        let a : eqb (numberAt s i) 0 ≡ false = ne-eqb (numberAt s i) 0 (λ e. omega (arith, k .0)) in
-        λ d. a d || lt-leb p (numberAt s i) (k .1) d)
+        let a : eqb (coefAt s i) 0 ≡ false = ne-eqb (coefAt s i) 0 (λ e. omega (arith, k .0)) in
+        λ d. a d || lt-leb p (coefAt s i) (k .1) d)
 
-    pub number-own : Own 6 (numberRule p operand s)
-    unfolding numberRule
-    number-own = found-own (badNumberAt p s) 6 operand (records s)
+    pub coef-own : Own 6 (coefRule p operand s)
+    unfolding coefRule
+    coef-own = found-own (badCoefAt p s) 6 operand (records s)
 
 module _ (g : List ℕ) where
   pub divisor-passed : divisorRule g .number ≡ 0 → 0 < records g
   unfolding divisorRule
   divisor-passed e = ltb-true 0 (records g) (unless-passed (ltb 0 (records g)) 7 2 (omega arith) e)
 
-  pub passed-divisor : 0 < records g → divisorRule g ≡ none
-  unfolding divisorRule
-  passed-divisor h = passed-unless (ltb 0 (records g)) 7 2 (lt-ltb 0 (records g) h)
-
 module _ (least : ℕ) (work : List ℕ) where
   pub work-passed : workRule least work .number ≡ 0 → least ≤ length work
   unfolding workRule
   work-passed e = leb-true least (length work) (unless-passed (leb least (length work)) 8 5 (omega arith) e)
-
-  pub passed-work : least ≤ length work → workRule least work ≡ none
-  unfolding workRule
-  passed-work h = passed-unless (leb least (length work)) 8 5 (le-leb least (length work) h)
 
 -- Lent slices
 
@@ -282,21 +289,22 @@ module _ (slices : List Lent) where
 record Terms (p : ℕ) (s : Lent) : Type 0 where
   monomials : (i : ℕ) → i < records (s .words) → isMonomial base (wordAt (s .words) i) ≡ true
   falls : (i : ℕ) → suc i < records (s .words) → wordAt (s .words) (suc i) < wordAt (s .words) i
-  numbers : (i : ℕ) → i < records (s .words) → (0 < numberAt (s .words) i) × (numberAt (s .words) i < p)
+  coefs : (i : ℕ) → i < records (s .words) → (0 < coefAt (s .words) i) × (coefAt (s .words) i < p)
 
 module _ (p : ℕ) (inputs : List Lent) where
-  terms-passed : Passed (orderRules base inputs) → Passed (numberRules p inputs) → Each (λ s. Terms p s) inputs
+  terms-passed : Passed (orderRules base inputs) → Passed (coefRules p inputs) → Each (λ s. Terms p s) inputs
   terms-passed h k =
       let j = passed-append (map (λ s. guardRule base (s .operand) (s .words)) inputs) (map (λ s. orderRule (s .operand) (s .words)) inputs) h in
       go inputs (j .0) (j .1) k
     where
-      go : (slices : List Lent) → Passed (map (λ s. guardRule base (s .operand) (s .words)) slices) → Passed (map (λ s. orderRule (s .operand) (s .words)) slices) → Passed (numberRules p slices) → Each (λ s. Terms p s) slices
+      go : (slices : List Lent) → Passed (map (λ s. guardRule base (s .operand) (s .words)) slices) →
+          Passed (map (λ s. orderRule (s .operand) (s .words)) slices) → Passed (coefRules p slices) → Each (λ s. Terms p s) slices
       go [] a b c = tt
       go (s ∷ slices) a b c = (
         record {
           monomials = guard-passed (s .operand) (s .words) (a .0);
           falls = order-passed (s .operand) (s .words) (b .0);
-          numbers = number-passed (s .operand) (s .words) p (c .0);
+          coefs = coef-passed (s .operand) (s .words) p (c .0);
         },
         go slices (a .1) (b .1) (c .1),
       )
@@ -307,14 +315,14 @@ module _ (p : ℕ) (inputs : List Lent) where
       (passed-rules (λ s. Terms p s) (λ s. guardRule base (s .operand) (s .words)) (λ s f. passed-guard (s .operand) (s .words) (f .monomials)) inputs h)
       (passed-rules (λ s. Terms p s) (λ s. orderRule (s .operand) (s .words)) (λ s f. passed-order (s .operand) (s .words) (f .falls)) inputs h)
 
-  passed-numbers : Each (λ s. Terms p s) inputs → Passed (numberRules p inputs)
-  passed-numbers h =
-      passed-rules (λ s. Terms p s) (λ s. numberRule p (s .operand) (s .words)) (λ s f. passed-number (s .operand) (s .words) p (f .numbers)) inputs h
+  passed-coefs : Each (λ s. Terms p s) inputs → Passed (coefRules p inputs)
+  passed-coefs h =
+      passed-rules (λ s. Terms p s) (λ s. coefRule p (s .operand) (s .words)) (λ s f. passed-coef (s .operand) (s .words) p (f .coefs)) inputs h
 
 module _ (p : ℕ) (inputs outputs : List Lent) where
   pub refusals-accepted : Passed (refusals base p inputs outputs) → Accepted p inputs outputs
   refusals-accepted h =
-      let k = passed-append (shapeRules (inputs ++ outputs) ++ orderRules base inputs) (numberRules p inputs) (h .1) in
+      let k = passed-append (shapeRules (inputs ++ outputs) ++ orderRules base inputs) (coefRules p inputs) (h .1) in
       let j = passed-append (shapeRules (inputs ++ outputs)) (orderRules base inputs) (k .0) in
       let shaped = each-append (λ s. Shaped s) inputs outputs (shapes-passed (inputs ++ outputs) (j .0)) in
       record {
@@ -322,7 +330,7 @@ module _ (p : ℕ) (inputs outputs : List Lent) where
         ins =
             each-map (λ s. Shaped s × Terms p s) (λ s. Input p s)
             (λ s f. record {
-              valid = record { even = f .0 .even; monomials = f .1 .monomials; falls = f .1 .falls; numbers = f .1 .numbers };
+              valid = record { even = f .0 .even; monomials = f .1 .monomials; falls = f .1 .falls; coefs = f .1 .coefs };
               short = f .0 .short;
             })
             inputs
@@ -332,23 +340,12 @@ module _ (p : ℕ) (inputs outputs : List Lent) where
 
   pub accepted-refusals : Accepted p inputs outputs → Passed (refusals base p inputs outputs)
   accepted-refusals a =
-      let terms = each-map (λ s. Input p s) (λ s. Terms p s) (λ s f. record { monomials = f .valid .monomials; falls = f .valid .falls; numbers = f .valid .numbers }) inputs (a .ins) in
+      let terms = each-map (λ s. Input p s) (λ s. Terms p s) (λ s f. record { monomials = f .valid .monomials; falls = f .valid .falls; coefs = f .valid .coefs }) inputs (a .ins) in
       let shaped = each-map (λ s. Input p s) (λ s. Shaped s) (λ s f. record { even = f .valid .even; short = f .short }) inputs (a .ins) in (
         number-of (passed-modulus p (a .modulus)),
-        append-passed (shapeRules (inputs ++ outputs) ++ orderRules base inputs) (numberRules p inputs)
+        append-passed (shapeRules (inputs ++ outputs) ++ orderRules base inputs) (coefRules p inputs)
             (append-passed (shapeRules (inputs ++ outputs)) (orderRules base inputs)
             (passed-shapes (inputs ++ outputs) (append-each (λ s. Shaped s) inputs outputs shaped (a .outs)))
             (passed-orders p inputs terms))
-            (passed-numbers p inputs terms),
+            (passed-coefs p inputs terms),
       )
-
-  module _ (more : List Report) (otherwise : Report) where
-    pub fold-accepted : firstOr (refusals base p inputs outputs ++ more) otherwise .number ≡ 0 → Accepted p inputs outputs × Passed more
-    fold-accepted e =
-        let k = passed-append (refusals base p inputs outputs) more (fold-passed (refusals base p inputs outputs ++ more) otherwise e .0) in
-        (refusals-accepted (k .0), k .1)
-
-    pub accepted-fold : Accepted p inputs outputs → firstOr (refusals base p inputs outputs ++ more) otherwise ≡ firstOr more otherwise
-    accepted-fold a =
-        fold-append (refusals base p inputs outputs) more otherwise
-        ∙ passed-fold (refusals base p inputs outputs) (firstOr more otherwise) (accepted-refusals a)

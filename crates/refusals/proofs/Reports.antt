@@ -117,7 +117,8 @@ other-passed n (r ∷ rs) otherwise h e = go (eqb (r .number) 0) refl e (other-p
     go true f k rest = (eqb-true (r .number) 0 f, rest k)
     go false f k rest = absurd (h .0 k)
 
-other-told : (n : ℕ) (before : List Report) (r : Report) (after : List Report) (otherwise : Report) → Other n before → Other n after → (otherwise .number ≡ n → ⊥) → firstOr (before ++ r ∷ after) otherwise .number ≡ n → Passed before × (firstOr (before ++ r ∷ after) otherwise ≡ r)
+other-told : (n : ℕ) (before : List Report) (r : Report) (after : List Report) (otherwise : Report) → Other n before → Other n after →
+    (otherwise .number ≡ n → ⊥) → firstOr (before ++ r ∷ after) otherwise .number ≡ n → Passed before × (firstOr (before ++ r ∷ after) otherwise ≡ r)
 other-told n before r after otherwise hb ha ho e =
     let append = fold-append before (r ∷ after) otherwise in
     let k : firstOr before (firstOr (r ∷ after) otherwise) .number ≡ n = ap (λ (x : Report). x .number) (sym append) ∙ e in
@@ -129,7 +130,8 @@ other-told n before r after otherwise hb ha ho e =
     go true f k = absurd (ho (ap (λ (x : Report). x .number) (sym (passed-fold after otherwise (other-passed n after otherwise ha k))) ∙ k))
     go false f k = refl
 
-pub fold-told : (before : List Report) (r : Report) (after : List Report) (otherwise told : Report) → Ascending 1 (before ++ r ∷ after) → otherwise .number ≡ 0 → told .number ≡ suc (length before) → (firstOr (before ++ r ∷ after) otherwise ≡ told) ↔ (Passed before × (r ≡ told))
+pub fold-told : (before : List Report) (r : Report) (after : List Report) (otherwise told : Report) → Ascending 1 (before ++ r ∷ after) →
+    otherwise .number ≡ 0 → told .number ≡ suc (length before) → (firstOr (before ++ r ∷ after) otherwise ≡ told) ↔ (Passed before × (r ≡ told))
 fold-told before r after otherwise told a z e =
     let n = suc (length before) in
     let lower = below-other 1 n before (ascending-before 1 before (r ∷ after) a) (omega arith) (omega arith) in

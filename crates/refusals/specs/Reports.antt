@@ -1,4 +1,4 @@
--- Reports, as document 01 has them: the number, an operand, a term index, and two term counts.
+-- Reports, as RULES Report has them: the number, an operand, a term index, and two term counts.
 --
 --   none                     number 0 and nothing told: no refusal is due
 --   refusal n operand i      the refusal n, of an operand, at the term i

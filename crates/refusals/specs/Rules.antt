@@ -1,4 +1,4 @@
--- The refusals 1 to 8 of document 01, each a rule that answers a report: `none` where it is not due.
+-- The refusals 1 to 8 of RULES Replies, each a rule that answers a report: `none` where it is not due.
 -- Of several that are due the lowest number wins, then the lowest operand, then the lowest term.
 --
 --   modulusRule p               1: p is not a prime in its range
@@ -6,10 +6,12 @@
 --   longRule most operand s     3: the slice is over its number of terms
 --   guardRule l operand s       4: a guard bit is set
 --   orderRule operand s         5: a monomial is not below the one before
---   numberRule p operand s      6: a coefficient is 0 or at least p
+--   coefRule p operand s        6: a coefficient is 0 or at least p
 --   divisorRule g               7: the divisor is zero
 --   workRule least work         8: the work array is too short
+--   faultsOf l p s              the first place of 4, of 5 and of 6 in a slice
 --   Lent                        an input or output slice: its operand, its words, and the most terms it may have
+--   lent operand s most         such a slice
 --   refusals l p ins outs       the rules 1 to 6 of a call with these inputs and outputs, in the order in which they win
 use Prim.Native.Nat.{ℕ, zero, suc, _%_}
 use mathlib.Core.Bool.{Bool, false, not, _||_}
@@ -19,7 +21,7 @@ use lib.ListN.{length}
 use Rattle.algebra.specs.Residues.{pick, first}
 use Rattle.field.specs.Moduli.{isModulus}
 use Rattle.monomial.specs.Layout.{Layout, isMonomial}
-use Rattle.poly.specs.Words.{records, wordAt, numberAt}
+use Rattle.poly.specs.Words.{records, wordAt, coefAt}
 use Rattle.refusals.specs.Reports.{none, refusal}
 use Rattle.refusals.specs.declared.report.Report.{Report}
 use Rattle.refusals.specs.declared.rules.Faults.{Faults}
@@ -49,8 +51,8 @@ unfoldable pub orderAt : List ℕ → ℕ → Bool
 orderAt s zero = false
 orderAt s (suc i) = leb (wordAt s i) (wordAt s (suc i))
 
-unfoldable pub badNumberAt : ℕ → List ℕ → ℕ → Bool
-badNumberAt p s i = eqb (numberAt s i) 0 || leb p (numberAt s i)
+unfoldable pub badCoefAt : ℕ → List ℕ → ℕ → Bool
+badCoefAt p s i = eqb (coefAt s i) 0 || leb p (coefAt s i)
 
 -- The rules
 
@@ -69,8 +71,8 @@ guardRule l operand s = atTerm 4 operand (first (guardAt l s) 0 (records s)) (re
 unfoldable pub orderRule : ℕ → List ℕ → Report
 orderRule operand s = atTerm 5 operand (first (orderAt s) 0 (records s)) (records s)
 
-unfoldable pub numberRule : ℕ → ℕ → List ℕ → Report
-numberRule p operand s = atTerm 6 operand (first (badNumberAt p s) 0 (records s)) (records s)
+unfoldable pub coefRule : ℕ → ℕ → List ℕ → Report
+coefRule p operand s = atTerm 6 operand (first (badCoefAt p s) 0 (records s)) (records s)
 
 unfoldable pub divisorRule : List ℕ → Report
 divisorRule g = unless (ltb 0 (records g)) 7 2
@@ -84,7 +86,7 @@ faultsOf l p s =
     record {
       guard = first (guardAt l s) 0 (records s);
       order = first (orderAt s) 0 (records s);
-      number = first (badNumberAt p s) 0 (records s);
+      coef = first (badCoefAt p s) 0 (records s);
     }
 
 -- The rules 1 to 6 as they stand in every call
@@ -93,6 +95,9 @@ pub record Lent : Type 0 where
   pub operand : ℕ
   pub words : List ℕ
   pub most : ℕ
+
+abbrev pub lent : ℕ → List ℕ → ℕ → Lent
+lent operand s most = record { operand = operand; words = s; most = most }
 
 -- 2 and 3, over inputs and outputs together
 abbrev pub shapeRules : List Lent → List Report
@@ -103,8 +108,8 @@ abbrev pub orderRules : Layout → List Lent → List Report
 orderRules l inputs = map (λ s. guardRule l (s .operand) (s .words)) inputs ++ map (λ s. orderRule (s .operand) (s .words)) inputs
 
 -- 6, over the inputs
-abbrev pub numberRules : ℕ → List Lent → List Report
-numberRules p inputs = map (λ s. numberRule p (s .operand) (s .words)) inputs
+abbrev pub coefRules : ℕ → List Lent → List Report
+coefRules p inputs = map (λ s. coefRule p (s .operand) (s .words)) inputs
 
 abbrev pub refusals : Layout → ℕ → List Lent → List Lent → List Report
-refusals l p inputs outputs = modulusRule p ∷ shapeRules (inputs ++ outputs) ++ orderRules l inputs ++ numberRules p inputs
+refusals l p inputs outputs = modulusRule p ∷ shapeRules (inputs ++ outputs) ++ orderRules l inputs ++ coefRules p inputs

@@ -2,12 +2,12 @@
 ghost use mathlib.Core.Path.{_≡_};
 ghost use Prim.Native.Nat.{_*_, _+_, _<_};
 ghost use lib.ListN.{length};
-ghost use Rattle.algebra.specs.Residues.{pick};
 ghost use Rattle.monomial.specs.Layout.{base};
-ghost use Rattle.refusals.specs.Rules.{unless, atTerm, guardAt, orderAt, badNumberAt, modulusRule, oddRule, longRule, divisorRule, workRule, faultsOf};
+ghost use Rattle.refusals.specs.Rules.{unless, atTerm, guardAt, orderAt, badCoefAt, modulusRule, oddRule, longRule, divisorRule, workRule, faultsOf};
 use crate::report::Report;
 use crate::report::done;
 use crate::report::refusal;
+use poly::numbers::choose;
 
 // The most terms of an input or a quotient room, and of any other room.
 pub const INPUT_TERMS: usize = 4096;
@@ -16,9 +16,9 @@ pub const ROOM_TERMS: usize = 16777216;
 
 // The first term with each kind of fault; the number of terms where there is none.
 pub struct Faults {
-    pub guard: usize,
-    pub order: usize,
-    pub number: usize,
+    pub guard: u64,
+    pub order: u64,
+    pub coef: u64,
 }
 
 // A refusal where a test did not pass.
@@ -33,11 +33,11 @@ pub fn unless(passed: bool, number: u64, operand: u64) -> Report
 }
 
 // A refusal at a term, where there is such a term.
-pub fn at_term(number: u64, operand: u64, index: usize, count: usize) -> Report
+pub fn at_term(number: u64, operand: u64, index: u64, count: u64) -> Report
     ensures { λ r. ⌜ r ≡ atTerm number operand index count ⌝ }
 {
     if index < count {
-        refusal(number, operand, index as u64)
+        refusal(number, operand, index)
     } else {
         done(0, 0)
     }
@@ -82,28 +82,18 @@ pub fn work_rule(least: usize, work: &[u64]) -> Report
 pub fn find_faults(p: u64, s: &[u64]) -> Faults
     ensures { λ r. ⌜ r ≡ faultsOf base p (now (s .entry)) ⌝ }
 {
-    let n = s.len() / 2;
-    let mut guard = n;
-    let mut order = n;
-    let mut number = n;
-    let mut i = n;
+    let mut i = s.len() / 2;
+    let mut guard = i as u64;
+    let mut order = i as u64;
+    let mut coef = i as u64;
     while 0 < i {
         i -= 1;
-        guard = choose(guard_at(s, i), i, guard);
-        order = choose(order_at(s, i), i, order);
-        number = choose(bad_number_at(p, s, i), i, number);
+        let place = i as u64;
+        guard = choose(guard_at(s, i), place, guard);
+        order = choose(order_at(s, i), place, order);
+        coef = choose(bad_coef_at(p, s, i), place, coef);
     }
-    Faults {
-        guard,
-        order,
-        number,
-    }
-}
-
-fn choose(hit: bool, i: usize, place: usize) -> usize
-    ensures { λ r. ⌜ r ≡ pick hit i place ⌝ }
-{
-    if hit { i } else { place }
+    Faults { guard, order, coef }
 }
 
 fn guard_at(s: &[u64], i: usize) -> bool
@@ -123,9 +113,9 @@ fn order_at(s: &[u64], i: usize) -> bool
     s[2 * (i - 1)] <= s[2 * i]
 }
 
-fn bad_number_at(p: u64, s: &[u64], i: usize) -> bool
+fn bad_coef_at(p: u64, s: &[u64], i: usize) -> bool
     requires { ⌜ 2 * i + 1 < length (now s) ⌝ }
-    ensures { λ r. ⌜ r ≡ badNumberAt p (now (s .entry)) i ⌝ }
+    ensures { λ r. ⌜ r ≡ badCoefAt p (now (s .entry)) i ⌝ }
 {
     let c = s[2 * i + 1];
     if c == 0 {

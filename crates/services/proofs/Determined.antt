@@ -25,7 +25,8 @@ profile-of-determined κs a r r′ s s′ p q = p ∙ sym q
 pub run-asks-nothing : (κs : _) (a : _) → run.Pre κs a
 run-asks-nothing κs a = tt
 
-pub run-determined : (κs : _) (a : _) (r r′ : _) (s s′ : _) → run.Post κs a r s → run.Post κs a r′ s′ → (r .now ≡ r′ .now) × (ptr r ≡ ptr r′)
+pub run-determined :
+    (κs : _) (a : _) (r r′ : _) (s s′ : _) → run.Post κs a r s → run.Post κs a r′ s′ → (r .now ≡ r′ .now) × (ptr r ≡ ptr r′)
 run-determined κs a r r′ s s′ p q = (p .0 ∙ sym (q .0), p .1 ∙ sym (q .1))
 
 pub run-part-asks-nothing : (κs : _) (a : _) → run-part.Pre κs a

@@ -1,11 +1,13 @@
 -- Laws of the profile and of the run: one for each way out of the functions that answer them.
 --
---   profiled, not-profiled     the profile beside a report that passed, and beside one that refused
---   run-refused                the run of a slice that fails 2 to 5
---   run-missing                the run of a power that no term has
---   run-found                  the run from the first term with the power to the first without
---   end-within                 the scan for the end answers at most the number of terms
---   run-within                 the run starts at most at its end, and ends within the slice
+--   profiled, not-profiled         the profile beside a report that passed, and beside one that refused
+--   starts, ends                   the first term with the power, and the first after it without
+--   emptyPart, part                the empty part at the front, and the part from one term up to another
+--   run-refused                    the run of a slice that fails 2 to 5
+--   run-missing                    the run of a power that no term has
+--   run-found                      the run from the first term with the power to the first without
+--   end-within                     the scan for the end answers at most the number of terms
+--   run-within                     the run starts at most at its end, and ends within the slice
 use Prim.Native.Nat.{ℕ, _-_, _*_, _≤_, _<_}
 use mathlib.Core.Path.{_≡_, refl, sym, _∙_, ap}
 use mathlib.Core.Bool.{Bool, true, false, _&&_}
@@ -51,10 +53,18 @@ ends s power = first (λ i. powerIs false power (wordAt s i)) (starts s power) (
 abbrev pub emptyPart : Part
 emptyPart = record { start = 0; end = 0 }
 
+-- from term a up to term c
+abbrev pub part : ℕ → ℕ → Part
+part a c = record { start = 2 * a; end = 2 * c }
+
+within : (b : Bool) (a c n : ℕ) → a ≤ c → c ≤ n → let run = pick b (part a c) emptyPart in (run .start ≤ run .end) × (run .end ≤ 2 * n)
+within true a c n h k = (omega arith, omega arith)
+within false a c n h k = (omega arith, omega arith)
+
 module _ (s : List ℕ) (power : ℕ) where
   pub run-refused : inOrder s ≡ false → runOf s power ≡ emptyPart
   unfolding runOf
-  run-refused e = ap (λ b. pick (b && ltb (starts s power) (records s)) (record { start = 2 * starts s power; end = 2 * ends s power }) emptyPart) e
+  run-refused e = ap (λ b. pick (b && ltb (starts s power) (records s)) (part (starts s power) (ends s power)) emptyPart) e
 
   -- i and j are what the two scans answered
   module _ (i : ℕ) (e : i ≡ first (λ k. powerIs true power (wordAt s k)) 0 (records s - 0)) where
@@ -65,22 +75,23 @@ module _ (s : List ℕ) (power : ℕ) where
     unfolding runOf
     run-missing o h =
         let k : records s ≤ starts s power = omega (arith, start-at) in
-        λ d. pick (o d && le-ltb (starts s power) (records s) k d) (record { start = 2 * starts s power; end = 2 * ends s power }) emptyPart
+        λ d. pick (o d && le-ltb (starts s power) (records s) k d) (part (starts s power) (ends s power)) emptyPart
 
-    pub run-found : inOrder s ≡ true → i < records s → (j : ℕ) → j ≡ first (λ k. powerIs false power (wordAt s k)) i (records s - i) → _≡_ {A = Part} (record { start = 2 * i; end = 2 * j }) (runOf s power)
+    pub run-found :
+        inOrder s ≡ true →
+        i < records s →
+        (j : ℕ) →
+        j ≡ first (λ k. powerIs false power (wordAt s k)) i (records s - i) →
+        part i j ≡ runOf s power
     unfolding runOf
     run-found o h j f =
         let k : starts s power < records s = omega (arith, start-at) in
         let g : j ≡ ends s power = f ∙ ap (λ x. first (λ k. powerIs false power (wordAt s k)) x (records s - x)) start-at in
-        (λ d. record { start = 2 * start-at d; end = 2 * g d })
-        ∙ sym (λ d. pick (o d && lt-ltb (starts s power) (records s) k d) (record { start = 2 * starts s power; end = 2 * ends s power }) emptyPart)
+        (λ d. part (start-at d) (g d))
+        ∙ sym (λ d. pick (o d && lt-ltb (starts s power) (records s) k d) (part (starts s power) (ends s power)) emptyPart)
 
   pub end-within : (i j : ℕ) → i ≤ records s → j ≡ first (λ k. powerIs false power (wordAt s k)) i (records s - i) → j ≤ records s
   end-within i j h e = omega (arith, e, first-within (λ k. powerIs false power (wordAt s k)) i (records s - i))
-
-  within : (b : Bool) (a c n : ℕ) → a ≤ c → c ≤ n → (pick b (record { start = 2 * a; end = 2 * c }) emptyPart .start ≤ pick b (record { start = 2 * a; end = 2 * c }) emptyPart .end) × (pick b (record { start = 2 * a; end = 2 * c }) emptyPart .end ≤ 2 * n)
-  within true a c n h k = (omega arith, omega arith)
-  within false a c n h k = (omega arith, omega arith)
 
   pub run-within : (runOf s power .start ≤ runOf s power .end) × (runOf s power .end ≤ length s)
   unfolding runOf
@@ -88,5 +99,6 @@ module _ (s : List ℕ) (power : ℕ) where
       let a = starts s power in
       let c = ends s power in
       let h : a ≤ records s = omega (arith, first-within (λ i. powerIs true power (wordAt s i)) 0 (records s)) in
-      let w = within (inOrder s && ltb a (records s)) a c (records s) (first-from (λ i. powerIs false power (wordAt s i)) a (records s - a)) (end-within a c h refl) in
+      let k : a ≤ c = first-from (λ i. powerIs false power (wordAt s i)) a (records s - a) in
+      let w = within (inOrder s && ltb a (records s)) a c (records s) k (end-within a c h refl) in
       (w .0, omega (arith, w .1))

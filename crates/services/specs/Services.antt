@@ -1,8 +1,7 @@
 -- What the check, the profile and the run of a power of x answer.
 --
 --   checkOf p s          the report of one polynomial: a refusal 1 to 6, or its term count
---   measureOf s          the profile of a slice: term count, the four largest exponents, the largest total degree
---   profileOf p s        the same beside the report; zero where the report refuses
+--   profileOf p s        the profile of a slice beside that report; zero where the report refuses
 --   runOf s power        where the terms with this power of x lie, in words of the slice
 --   wordsFrom part s     the words of that part
 use Prim.Native.Nat.{ℕ, _*_, _-_}
@@ -11,21 +10,19 @@ use mathlib.Core.List.{List, [], _∷_, _++_}
 use lib.Dec.{eqb, ltb}
 use lib.ListN.{take, drop}
 use Rattle.algebra.specs.Residues.{pick, first}
-use Rattle.algebra.specs.Monomials.{degree}
-use Rattle.algebra.specs.Polynomials.{largest}
 use Rattle.monomial.specs.Layout.{base, exponentOf}
 use Rattle.poly.specs.Words.{records, wordAt}
+use Rattle.poly.specs.Profiles.{measureOf}
 use Rattle.refusals.specs.Reports.{none, done, firstOr}
-use Rattle.refusals.specs.Rules.{Lent, inputTerms, refusals, shapeRules, orderRules}
+use Rattle.refusals.specs.Rules.{Lent, lent, inputTerms, refusals, shapeRules, orderRules}
 use Rattle.refusals.specs.declared.report.Report.{Report}
 use Rattle.poly.specs.declared.profile.Profile.{Profile}
 use Rattle.services.specs.declared.profile.Profiled.{Profiled}
 use Rattle.services.specs.declared.run.Part.{Part}
-use Rattle.poly.specs.Profiles.{measureOf}
 
 -- a slice lent as the first input
 abbrev pub asInput : List ℕ → Lent
-asInput s = record { operand = 1; words = s; most = inputTerms }
+asInput s = lent 1 s inputTerms
 
 unfoldable pub checkOf : ℕ → List ℕ → Report
 checkOf p s = firstOr (refusals base p (asInput s ∷ []) []) (done (records s) 0)

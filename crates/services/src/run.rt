@@ -5,13 +5,10 @@ ghost use denote.Ref.{ptr};
 ghost use Rattle.algebra.specs.Residues.{first};
 ghost use Rattle.poly.specs.Words.{records, wordAt};
 ghost use Rattle.services.specs.Services.{powerIs, inOrder, runOf, wordsFrom};
+use refusals::due::Due;
 use refusals::report::done;
 use refusals::report::or_else;
 use refusals::rules::INPUT_TERMS;
-use refusals::rules::at_term;
-use refusals::rules::find_faults;
-use refusals::rules::long_rule;
-use refusals::rules::odd_rule;
 
 // A part of a slice, from one word up to another.
 #[repr(C)]
@@ -22,7 +19,9 @@ pub struct Part {
 
 // The terms with this power of x, as a part of the slice lent: empty, at its front, where no term has it or the slice fails 2 to 5.
 pub fn run(s: &[u64], power: u64) -> &[u64]
-    ensures { λ r. ⌜ (now r ≡ wordsFrom (runOf (now (s .entry)) power) (now (s .entry))) × (ptr r ≡ (ptr (s .entry) .0, ptr (s .entry) .1 + 8 * runOf (now (s .entry)) power .start)) ⌝ }
+    ensures { λ r. ⌜
+        (now r ≡ wordsFrom (runOf (now (s .entry)) power) (now (s .entry)))
+        × (ptr r ≡ (ptr (s .entry) .0, ptr (s .entry) .1 + 8 * runOf (now (s .entry)) power .start)) ⌝ }
 {
     let part = run_part(s, power);
     let start = part.start;
@@ -48,16 +47,15 @@ pub fn run_part(s: &[u64], power: u64) -> Part
     }
 }
 
-// None of 2, 3, 4 and 5 is due.
+// None of 2, 3, 4 and 5 is due. The modulus is asked for 6 alone.
 fn in_order(s: &[u64]) -> bool
     ensures { λ r. ⌜ r ≡ inOrder (now (s .entry)) ⌝ }
 {
-    let n = s.len() / 2;
-    let f = find_faults(0, s);
-    let order = or_else(at_term(5, 1, f.order, n), done(0, 0));
-    let guard = or_else(at_term(4, 1, f.guard, n), order);
-    let long = or_else(long_rule(INPUT_TERMS, 1, s), guard);
-    or_else(odd_rule(1, s), long).number == 0
+    let due = Due::none().input(0, 1, INPUT_TERMS, s);
+    let order = or_else(due.order, done(0, 0));
+    let guard = or_else(due.guard, order);
+    let long = or_else(due.long, guard);
+    or_else(due.odd, long).number == 0
 }
 
 // The first term from a given one on that has the power, or that has it not; the number of terms where there is none.

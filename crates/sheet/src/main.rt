@@ -1,17 +1,15 @@
-// Runs the sheet of examples of document 01 through the engine, and prints a line for each case: its row, the call, the modulus, the
+// Runs the examples of RULES Sheet through the engine, and prints a line for each case: its row, the call, the modulus, the
 // polynomials, the reply, and whether the report and every word lent are as the sheet says. The last line counts the cases. A program
 // in Rattle has no exit status: what this one has to print is stored beside it, and the gate compares.
 mod cases;
 mod fields;
-mod outcomes;
+mod lines;
 mod random;
-mod rows;
 mod tables;
 mod text;
-mod words;
 
 fn main() {
-    let t = rows::run_all();
+    let t = lines::run_all();
     io::print_decimal(1, t.cases);
     text::write(b" cases, ");
     io::print_decimal(1, t.right);

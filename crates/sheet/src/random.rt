@@ -3,15 +3,12 @@ ghost use Prim.Native.Nat.{_+_, _<_, _≤_};
 ghost use mathlib.Core.Path.{_≡_};
 ghost use mathlib.Core.List.{[], _∷_};
 ghost use Rattle.refusals.specs.Reports.{done};
-ghost use Rattle.division.specs.Division.{divided};
-ghost use Rattle.claims.specs.Sheet.{division, right};
-ghost use Rattle.sheet.specs.Cases.{lent, after};
-use crate::outcomes::divided_said;
+ghost use Rattle.claims.specs.Sheet.{right};
+ghost use Rattle.rows.specs.Cases.{divisionRow};
 use crate::tables::ONE;
 use crate::tables::ZERO;
-use crate::words::DIRT;
-use division::division::divide;
 use refusals::report::done;
+use rows::polys::division_tried;
 
 pub const SEED: u64 = 20261115;
 
@@ -69,13 +66,9 @@ fn draw_in(p: u64, seed: u64, right: u64, f: &mut [u64]) -> Drawn
 
 // Whether f by itself, in a room of 1 term, is 1 with remainder zero.
 fn by_itself(p: u64, f: &[u64]) -> bool
-    ensures { λ t. ⌜ t ≡ right (division p (now (f .entry)) (now (f .entry)) (lent 2) (lent 4) (lent 4) (divided (done 1 0) (after (done 1 0) (0 ∷ 1 ∷ []) 2) (after (done 1 0) [] 4) (after (done 1 0) [] 4))) ⌝ }
+    ensures { λ t. ⌜ t ≡ right (divisionRow p (now (f .entry)) (now (f .entry)) 1 2 4 (done 1 0) (0 ∷ 1 ∷ []) []) ⌝ }
 {
-    let mut q = [DIRT; 2];
-    let mut r = [DIRT; 4];
-    let mut work = [DIRT; 4];
-    let report = divide(p, f, f, &mut q, &mut r, &mut work);
-    divided_said(report, &q, &r, &work, done(1, 0), &ONE, &ZERO)
+    division_tried(p, f, f, 1, 2, 4, done(1, 0), &ONE, &ZERO).right
 }
 
 // Fills an array with a polynomial, and answers where the generator is then. From the last term to the first the exponents of x and y,

@@ -1,5 +1,6 @@
-// What a line is made of. Polynomials are written as in document 02: each coefficient, then the letters that have an exponent.
+// What a line is made of. Polynomials are written as in RULES Text: each coefficient, then the letters that have an exponent.
 use monomial::exponent;
+use rows::outcomes::Tried;
 
 pub fn write(text: &[u8]) {
     io::write_all(1, text);
@@ -10,11 +11,11 @@ pub fn print_poly(s: &[u64]) {
     let n = s.len() / 2;
     let mut i = 0;
     while i < n {
-        let number = s[2 * i + 1];
-        if number == 0 {
+        let coef = s[2 * i + 1];
+        if coef == 0 {
             break;
         }
-        print_term(i, s[2 * i], number);
+        print_term(i, s[2 * i], coef);
         i += 1;
     }
     print_if_zero(i);
@@ -27,11 +28,11 @@ fn print_if_zero(terms: usize) {
     }
 }
 
-fn print_term(place: usize, word: u64, number: u64) {
+fn print_term(place: usize, word: u64, coef: u64) {
     if 0 < place {
         write(b"+");
     }
-    io::print_decimal(1, number);
+    io::print_decimal(1, coef);
     print_power(b"*x", exponent(word, 0));
     print_power(b"*y", exponent(word, 1));
     print_power(b"*z", exponent(word, 2));
@@ -74,10 +75,29 @@ pub fn print_head(row: u64, call: &[u8], p: u64) {
     write(b" of ");
 }
 
-// The terms that an array has room for.
-pub fn print_room(s: &[u64]) {
-    let terms = s.len() / 2;
+// A call on two polynomials.
+pub fn print_call(row: u64, call: &[u8], p: u64, f: &[u64], between: &[u8], g: &[u64]) {
+    print_head(row, call, p);
+    print_poly(f);
+    write(between);
+    print_poly(g);
+}
+
+// A room by its terms.
+pub fn print_room(name: &[u8], terms: usize) {
+    write(name);
     io::print_decimal(1, terms as u64);
+}
+
+// What was found in a room after reply 0, where it is what the row says.
+pub fn print_output(tried: Tried, name: &[u8], written: &[u64]) {
+    if !tried.right {
+        return;
+    }
+    if tried.number == 0 {
+        write(name);
+        print_poly(written);
+    }
 }
 
 // A reply with its meaning.

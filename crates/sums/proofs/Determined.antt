@@ -13,11 +13,13 @@ use Rattle.sums.proofs.difference.Reads as difference
 pub sum-asks-nothing : (κs : _) (a : _) → sum.Pre κs a
 sum-asks-nothing κs a = tt
 
-pub sum-determined : (κs : _) (a : _) (r r′ : _) (s s′ : _) → sum.Post κs a r s → sum.Post κs a r′ s′ → outcome r (now (s .1 .1 .1 .0)) [] ≡ outcome r′ (now (s′ .1 .1 .1 .0)) []
+pub sum-determined : (κs : _) (a : _) (r r′ : _) (s s′ : _) → sum.Post κs a r s → sum.Post κs a r′ s′ →
+    outcome r (now (s .1 .1 .1 .0)) [] [] ≡ outcome r′ (now (s′ .1 .1 .1 .0)) [] []
 sum-determined κs a r r′ s s′ p q = p ∙ sym q
 
 pub difference-asks-nothing : (κs : _) (a : _) → difference.Pre κs a
 difference-asks-nothing κs a = tt
 
-pub difference-determined : (κs : _) (a : _) (r r′ : _) (s s′ : _) → difference.Post κs a r s → difference.Post κs a r′ s′ → outcome r (now (s .1 .1 .1 .0)) [] ≡ outcome r′ (now (s′ .1 .1 .1 .0)) []
+pub difference-determined : (κs : _) (a : _) (r r′ : _) (s s′ : _) → difference.Post κs a r s → difference.Post κs a r′ s′ →
+    outcome r (now (s .1 .1 .1 .0)) [] [] ≡ outcome r′ (now (s′ .1 .1 .1 .0)) [] []
 difference-determined κs a r r′ s s′ p q = p ∙ sym q

@@ -1,22 +1,26 @@
 -- What sum and difference do.
 --
---   sumOf p a b room             the sum of two polynomials, in its normal form
+--   normalIn p a b f room        a call on a and b that puts the normal form of f into its room
+--   sumOf p a b room             the sum of two polynomials
 --   differenceOf p a b room      the difference
-use Prim.Native.Nat.{ℕ, _+_}
+use Prim.Native.Nat.{ℕ}
 use mathlib.Core.List.{List, [], _++_}
+use lib.ListN.{length}
+use Rattle.algebra.specs.Monomials.{Letters}
 use Rattle.algebra.specs.Orders.{Lex}
-use Rattle.algebra.specs.Polynomials.{negated, norm}
+use Rattle.algebra.specs.Polynomials.{Poly, negated, norm}
 use Rattle.monomial.specs.Layout.{base}
 use Rattle.poly.specs.Words.{polyOf}
-use Rattle.calls.specs.Outcomes.{Outcome, unlessRefused, inRoom}
 use Rattle.calls.specs.Inputs.{twoInputs}
+use Rattle.calls.specs.Outcomes.{Outcome, called, roomReply}
+
+abbrev pub normalIn : ℕ → List ℕ → List ℕ → Poly (Letters 4) → List ℕ → Outcome
+normalIn p a b f room =
+    let h = norm (Lex 4) p f in
+    called (twoInputs p a b room) (roomReply (length h) room) h [] room [] []
 
 unfoldable pub sumOf : ℕ → List ℕ → List ℕ → List ℕ → Outcome
-sumOf p a b room =
-    unlessRefused (twoInputs p a b room) room []
-    (inRoom (norm (Lex 4) p (polyOf base a ++ polyOf base b)) room [])
+sumOf p a b room = normalIn p a b (polyOf base a ++ polyOf base b) room
 
 unfoldable pub differenceOf : ℕ → List ℕ → List ℕ → List ℕ → Outcome
-differenceOf p a b room =
-    unlessRefused (twoInputs p a b room) room []
-    (inRoom (norm (Lex 4) p (polyOf base a ++ negated p (polyOf base b))) room [])
+differenceOf p a b room = normalIn p a b (polyOf base a ++ negated p (polyOf base b)) room

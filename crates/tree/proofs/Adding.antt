@@ -1,6 +1,6 @@
 -- One more row in the tree.
 --
---   left-append            the products of some rows, and of those after them
+--   awaited-append         the products of some rows, and of those after them
 --   adds                   a leaf that was empty now waits: the climb ended at the root, and what is left has the new products
 --   row-written            a row may be written while its leaf is empty: the tree holds, and the same products are left
 --   root-stands            the product at the root's key is among those left
@@ -14,43 +14,48 @@ use native.Mathlib.Omega.{arith}
 use Rattle.algebra.specs.Monomials.{Numbers}
 use Rattle.algebra.specs.Polynomials.{term, Poly, count, times}
 use Rattle.algebra.proofs.Sorted.{count-append, head-count}
-use Rattle.poly.specs.Words.{records, wordAt, numberAt, span}
-use Rattle.tree.specs.Tree.{Tree, Settled, rowOf, columnOf, Product, Waits, unlessEmpty, pending, left, Live, Climbed, Added}
+use Rattle.poly.specs.Words.{records, wordAt, coefAt, span}
+use Rattle.tree.specs.Tree.{tagAt, Tree, Settled, rowOf, columnOf, Product, Waits, unlessEmpty, pending, awaited, Live, Climbed, Added}
 use Rattle.poly.proofs.Records.{put, put-length, put-other}
 use Rattle.tree.proofs.Ways.{settled-root, root-settled, tree-greatest, Leaf, tree-leaf}
-use Rattle.tree.proofs.Taking.{Hand, hand, left-same, rowTerm, pending-at, pending-empty, pending-first}
+use Rattle.tree.proofs.Taking.{Hand, hand, awaited-same, rowTerm, pending-at, pending-empty, pending-first}
 
 module _ (rows cols : List ℕ) where
-  pub left-append : (w : List ℕ) (i n m : ℕ) → left rows cols w i (n + m) ≡ left rows cols w i n ++ left rows cols w (i + n) m
-  left-append w i zero m = λ d. left rows cols w (sym (add-zero i) d) (zero-add m d)
-  left-append w i (suc n) m =
+  pub awaited-append : (w : List ℕ) (i n m : ℕ) → awaited rows cols w i (n + m) ≡ awaited rows cols w i n ++ awaited rows cols w (i + n) m
+  awaited-append w i zero m = λ d. awaited rows cols w (sym (add-zero i) d) (zero-add m d)
+  awaited-append w i (suc n) m =
       let more : suc n + m ≡ suc (n + m) = omega arith in
       let place : suc i + n ≡ i + suc n = omega arith in
-      ap (left rows cols w i) more
-      ∙ ap (λ (f : Poly Numbers). pending rows cols w i ++ f) (left-append w (suc i) n m ∙ ap (λ x. left rows cols w (suc i) n ++ left rows cols w x m) place)
-      ∙ sym (append-assoc (pending rows cols w i) (left rows cols w (suc i) n) (left rows cols w (i + suc n) m))
+      ap (awaited rows cols w i) more
+      ∙ ap (λ (f : Poly Numbers). pending rows cols w i ++ f) (awaited-append w (suc i) n m ∙ ap (λ x. awaited rows cols w (suc i) n ++ awaited rows cols w x m) place)
+      ∙ sym (append-assoc (pending rows cols w i) (awaited rows cols w (suc i) n) (awaited rows cols w (i + suc n) m))
 
   -- the products of one row, of those before it, and of those after it
-  pub left-split : (w : List ℕ) (row : ℕ) → row < records rows → left rows cols w 0 (records rows) ≡ left rows cols w 0 row ++ (pending rows cols w row ++ left rows cols w (suc row) (records rows - suc row))
-  left-split w row h =
+  pub awaited-split : (w : List ℕ) (row : ℕ) → row < records rows →
+      awaited rows cols w 0 (records rows) ≡ awaited rows cols w 0 row ++ (pending rows cols w row ++ awaited rows cols w (suc row) (records rows - suc row))
+  awaited-split w row h =
       let n : records rows ≡ row + suc (records rows - suc row) = omega arith in
-      ap (left rows cols w 0) n ∙ left-append w 0 row (suc (records rows - suc row))
-      ∙ ap (λ x. left rows cols w 0 row ++ left rows cols w x (suc (records rows - suc row))) (zero-add row)
+      ap (awaited rows cols w 0) n ∙ awaited-append w 0 row (suc (records rows - suc row))
+      ∙ ap (λ x. awaited rows cols w 0 row ++ awaited rows cols w x (suc (records rows - suc row))) (zero-add row)
 
-  pub root-stands : (w : List ℕ) → Live rows cols w → 0 < records rows → 0 < wordAt w 1 → 0 < count (wordAt w 1 - 1) (left rows cols w 0 (records rows))
+  pub root-stands : (w : List ℕ) → Live rows cols w → 0 < records rows → 0 < wordAt w 1 → 0 < count (wordAt w 1 - 1) (awaited rows cols w 0 (records rows))
   root-stands w l some h =
-      let tag = numberAt w 1 in
+      let tag = tagAt w 1 in
       let x : Hand rows cols w (wordAt w 1) tag = hand rows cols w 1 (wordAt w 1) h (le-refl 1) (omega arith) (root-settled (records rows) w 1 (l .tree)) (l .waiting) refl in
       let row = rowOf tag in
-      let here : 0 < count (wordAt w 1 - 1) (pending rows cols w row) = subst (λ f. 0 < count (wordAt w 1 - 1) f) (sym (pending-first rows cols w (wordAt w 1) tag h x)) (head-count (term {K = Numbers} (wordAt w 1 - 1) (numberAt rows row * numberAt cols (columnOf tag))) (times (rowTerm rows cols row) (span cols (suc (columnOf tag)) (records cols - suc (columnOf tag))))) in
+      let here : 0 < count (wordAt w 1 - 1) (pending rows cols w row) =
+      subst (λ f. 0 < count (wordAt w 1 - 1) f) (sym (pending-first rows cols w (wordAt w 1) tag h x))
+      (head-count (term {K = Numbers} (wordAt w 1 - 1) (coefAt rows row * coefAt cols (columnOf tag)))
+      (times (rowTerm rows cols row) (span cols (suc (columnOf tag)) (records cols - suc (columnOf tag))))) in
       omega (
         arith,
-        ap (count (wordAt w 1 - 1)) (left-split w row (x .row)),
-        count-append {K = Numbers} (wordAt w 1 - 1) (left rows cols w 0 row) (pending rows cols w row ++ left rows cols w (suc row) (records rows - suc row)),
-        count-append {K = Numbers} (wordAt w 1 - 1) (pending rows cols w row) (left rows cols w (suc row) (records rows - suc row)),
+        ap (count (wordAt w 1 - 1)) (awaited-split w row (x .row)),
+        count-append {K = Numbers} (wordAt w 1 - 1) (awaited rows cols w 0 row) (pending rows cols w row ++ awaited rows cols w (suc row) (records rows - suc row)),
+        count-append {K = Numbers} (wordAt w 1 - 1) (pending rows cols w row) (awaited rows cols w (suc row) (records rows - suc row)),
       )
 
-  module _ (w : List ℕ) (row column k : ℕ) (h : row < records rows) (few : records rows < 2 ^ 32) (g : column < records cols) (few′ : records cols < 2 ^ 32) (empty : wordAt w (records rows + row) ≡ 0) (new : wordAt rows row + wordAt cols column + 1 < k) (root : wordAt w 1 < k) (l : Live rows cols w) where
+  module _ (w : List ℕ) (row column k : ℕ) (h : row < records rows) (few : records rows < 2 ^ 32) (g : column < records cols)
+      (few′ : records cols < 2 ^ 32) (empty : wordAt w (records rows + row) ≡ 0) (new : wordAt rows row + wordAt cols column + 1 < k) (root : wordAt w 1 < k) (l : Live rows cols w) where
     -- the new leaf's tag
     abbrev tag : ℕ
     tag = row * 2 ^ 32 + column
@@ -65,7 +70,7 @@ module _ (rows cols : List ℕ) where
     tag-column = omega arith
 
     module _ (w′ : List ℕ) (e : ℕ) (c : Climbed (records rows) (records rows + row) key tag k w w′ e) where
-      other : (i : ℕ) → i < records rows → (i ≡ row → ⊥) → (wordAt w′ (records rows + i) ≡ wordAt w (records rows + i)) × (numberAt w′ (records rows + i) ≡ numberAt w (records rows + i))
+      other : (i : ℕ) → i < records rows → (i ≡ row → ⊥) → (wordAt w′ (records rows + i) ≡ wordAt w (records rows + i)) × (tagAt w′ (records rows + i) ≡ tagAt w (records rows + i))
       other i b n = c .others (records rows + i) (omega arith) (omega arith) (λ d. n (omega arith))
 
       -- every leaf's key is below k
@@ -125,15 +130,16 @@ module _ (rows cols : List ℕ) where
 
       pub adds : Added rows cols row column k w w′
       adds =
-          let front : left rows cols w′ 0 row ≡ left rows cols w 0 row = sym (left-same rows cols w w′ 0 row (λ j f b. same-pending j (omega arith) (λ d. omega arith))) in
-          let back : left rows cols w′ (suc row) (records rows - suc row) ≡ left rows cols w (suc row) (records rows - suc row) = sym (left-same rows cols w w′ (suc row) (records rows - suc row) (λ j f b. same-pending j (omega arith) (λ d. omega arith))) in
+          let front : awaited rows cols w′ 0 row ≡ awaited rows cols w 0 row = sym (awaited-same rows cols w w′ 0 row (λ j f b. same-pending j (omega arith) (λ d. omega arith))) in
+          let back : awaited rows cols w′ (suc row) (records rows - suc row) ≡ awaited rows cols w (suc row) (records rows - suc row) =
+          sym (awaited-same rows cols w w′ (suc row) (records rows - suc row) (λ j f b. same-pending j (omega arith) (λ d. omega arith))) in
           record {
             as-long = c .as-long;
             live = record { long = omega (arith, c .as-long, l .long); tree = settled-root (records rows) w′ settled; waiting = waits };
-            before = left rows cols w 0 row;
-            after = left rows cols w (suc row) (records rows - suc row);
-            was = left-split w row h ∙ ap (λ (f : Poly Numbers). left rows cols w 0 row ++ (f ++ left rows cols w (suc row) (records rows - suc row))) (pending-empty rows cols w row empty);
-            becomes = left-split w′ row h ∙ (λ d. front d ++ (new-pending d ++ back d));
+            before = awaited rows cols w 0 row;
+            after = awaited rows cols w (suc row) (records rows - suc row);
+            was = awaited-split w row h ∙ ap (λ (f : Poly Numbers). awaited rows cols w 0 row ++ (f ++ awaited rows cols w (suc row) (records rows - suc row))) (pending-empty rows cols w row empty);
+            becomes = awaited-split w′ row h ∙ (λ d. front d ++ (new-pending d ++ back d));
             others = λ i b n. other i b n .0;
             lower = at-lower 1 (tree-leaf (records rows) w′ 1 settled (le-refl 1) (omega arith));
           }
@@ -156,11 +162,12 @@ module _ (rows cols w : List ℕ) (row m c : ℕ) (empty : wordAt w (records row
           pending-empty rows cols w i z ∙ sym (pending-empty rows′ cols w i (ap (λ x. wordAt w (x + i)) same ∙ z))
       go (no n) =
           let o = put-other rows row m c i n in
-          λ d. unlessEmpty (wordAt w (sym same d + i)) (times (term (sym (o .0) d) (sym (o .1) d)) (span cols (columnOf (numberAt w (sym same d + i))) (records cols - columnOf (numberAt w (sym same d + i)))))
+          λ d. unlessEmpty (wordAt w (sym same d + i)) (times (term (sym (o .0) d) (sym (o .1) d))
+          (span cols (columnOf (tagAt w (sym same d + i))) (records cols - columnOf (tagAt w (sym same d + i)))))
 
-  row-left : (i n : ℕ) → left rows cols w i n ≡ left rows′ cols w i n
-  row-left i zero = refl
-  row-left i (suc n) = λ d. row-pending i d ++ row-left (suc i) n d
+  row-awaited : (i n : ℕ) → awaited rows cols w i n ≡ awaited rows′ cols w i n
+  row-awaited i zero = refl
+  row-awaited i (suc n) = λ d. row-pending i d ++ row-awaited (suc i) n d
 
   row-waits : (i : ℕ) → Waits rows cols w i → Waits rows′ cols w i
   row-waits i v = record { waits = go (ℕ-discrete i row) (v .waits) }
@@ -171,17 +178,17 @@ module _ (rows cols w : List ℕ) (row m c : ℕ) (empty : wordAt w (records row
       go (no n) (inr q) =
           inr
           (record {
-            row = ap (λ x. rowOf (numberAt w (x + i))) same ∙ q .row;
-            column = subst (λ x. columnOf (numberAt w (x + i)) < records cols) (sym same) (q .column);
-            key = ap (λ x. wordAt w (x + i)) same ∙ q .key ∙ (λ d. sym (put-other rows row m c i n .0) d + wordAt cols (columnOf (numberAt w (sym same d + i))) + 1);
+            row = ap (λ x. rowOf (tagAt w (x + i))) same ∙ q .row;
+            column = subst (λ x. columnOf (tagAt w (x + i)) < records cols) (sym same) (q .column);
+            key = ap (λ x. wordAt w (x + i)) same ∙ q .key ∙ (λ d. sym (put-other rows row m c i n .0) d + wordAt cols (columnOf (tagAt w (sym same d + i))) + 1);
           })
 
-  pub row-written : Live rows cols w → Live rows′ cols w × (left rows cols w 0 (records rows) ≡ left rows′ cols w 0 (records rows′))
+  pub row-written : Live rows cols w → Live rows′ cols w × (awaited rows cols w 0 (records rows) ≡ awaited rows′ cols w 0 (records rows′))
   row-written l = (
     record {
       long = omega (arith, l .long, same);
       tree = subst (λ n. Tree n w) (sym same) (l .tree);
       waiting = λ i h. row-waits i (l .waiting i (omega (arith, same)));
     },
-    row-left 0 (records rows) ∙ ap (left rows′ cols w 0) (sym same),
+    row-awaited 0 (records rows) ∙ ap (awaited rows′ cols w 0) (sym same),
   )

@@ -20,10 +20,10 @@ use native.Mathlib.Decide.{ℕ-discrete, decLt}
 use native.Mathlib.Omega.{arith}
 use lib.Bits.{bitXor, xor-add-and, and-mask}
 use lib.ListN.{length}
-use Rattle.poly.specs.Words.{wordAt, numberAt}
-use Rattle.tree.specs.Tree.{Copy, Holds, Tree, Above, Settled, Greater, Climbed}
+use Rattle.poly.specs.Words.{wordAt}
+use Rattle.tree.specs.Tree.{tagAt, Copy, Holds, Tree, Above, Settled, Greater, Climbed}
 use Rattle.tree.specs.declared.rows.Node.{Node}
-use Rattle.poly.proofs.Records.{put, put-length, put-word, put-number, put-other}
+use Rattle.poly.proofs.Records.{put, put-length, put-word, put-coef, put-other}
 
 pub half-steps : (i m : ℕ) → i / 2 ^ suc m ≡ i / 2 / 2 ^ m
 half-steps i m = ap (λ (x : ℕ). i / x) (pow-succ' 2 m) ∙ sym (div-div-eq-div-mul i 2 (2 ^ m))
@@ -62,7 +62,7 @@ module _ (n : ℕ) where
   -- a record that holds still holds where neither it nor a child of it was written
   pub holds-other : (w : List ℕ) (x a b j : ℕ) → (j ≡ x → ⊥) → (j ≡ x / 2 → ⊥) → Holds w j → Holds (put w x a b) j
   holds-other w x a b j n m h =
-      let at : (y : ℕ) → (y ≡ x → ⊥) → (wordAt (put w x a b) y ≡ wordAt w y) × (numberAt (put w x a b) y ≡ numberAt w y) = put-other w x a b in
+      let at : (y : ℕ) → (y ≡ x → ⊥) → (wordAt (put w x a b) y ≡ wordAt w y) × (tagAt (put w x a b) y ≡ tagAt w y) = put-other w x a b in
       let here = at j n in
       let one = at (2 * j) (λ e. m (omega arith)) in
       let two = at (2 * j + 1) (λ e. m (omega arith)) in
@@ -72,7 +72,10 @@ module _ (n : ℕ) where
         copies = copies here one two (h .copies);
       }
     where
-      copies : (wordAt (put w x a b) j ≡ wordAt w j) × (numberAt (put w x a b) j ≡ numberAt w j) → (wordAt (put w x a b) (2 * j) ≡ wordAt w (2 * j)) × (numberAt (put w x a b) (2 * j) ≡ numberAt w (2 * j)) → (wordAt (put w x a b) (2 * j + 1) ≡ wordAt w (2 * j + 1)) × (numberAt (put w x a b) (2 * j + 1) ≡ numberAt w (2 * j + 1)) → Copy w j (2 * j) ⊎ Copy w j (2 * j + 1) → Copy (put w x a b) j (2 * j) ⊎ Copy (put w x a b) j (2 * j + 1)
+      copies : (wordAt (put w x a b) j ≡ wordAt w j) × (tagAt (put w x a b) j ≡ tagAt w j) →
+          (wordAt (put w x a b) (2 * j) ≡ wordAt w (2 * j)) × (tagAt (put w x a b) (2 * j) ≡ tagAt w (2 * j)) →
+          (wordAt (put w x a b) (2 * j + 1) ≡ wordAt w (2 * j + 1)) × (tagAt (put w x a b) (2 * j + 1) ≡ tagAt w (2 * j + 1)) → Copy w j (2 * j)
+          ⊎ Copy w j (2 * j + 1) → Copy (put w x a b) j (2 * j) ⊎ Copy (put w x a b) j (2 * j + 1)
       copies here one two (inl c) = inl (record { key = here .0 ∙ c .key ∙ sym (one .0); tag = here .1 ∙ c .tag ∙ sym (one .1) })
       copies here one two (inr c) = inr (record { key = here .0 ∙ c .key ∙ sym (two .0); tag = here .1 ∙ c .tag ∙ sym (two .1) })
 
@@ -110,7 +113,7 @@ module _ (n : ℕ) where
   pub record Best (w : List ℕ) (i a b : ℕ) : Type 0 where
     pub first : wordAt w i ≤ a
     pub second : wordAt w (beside i) ≤ a
-    pub copies : ((a ≡ wordAt w i) × (b ≡ numberAt w i)) ⊎ ((a ≡ wordAt w (beside i)) × (b ≡ numberAt w (beside i)))
+    pub copies : ((a ≡ wordAt w i) × (b ≡ tagAt w i)) ⊎ ((a ≡ wordAt w (beside i)) × (b ≡ tagAt w (beside i)))
 
   pub best-holds : (w : List ℕ) (i a b : ℕ) → 1 < i → 2 * (i / 2) + 1 < length w → Best w i a b → Holds (put w (i / 2) a b) (i / 2)
   best-holds w i a b h l g = go (children i) (g .copies)
@@ -118,21 +121,21 @@ module _ (n : ℕ) where
       w′ : List ℕ
       w′ = put w (i / 2) a b
 
-      at : (y : ℕ) → i / 2 < y → (wordAt w′ y ≡ wordAt w y) × (numberAt w′ y ≡ numberAt w y)
+      at : (y : ℕ) → i / 2 < y → (wordAt w′ y ≡ wordAt w y) × (tagAt w′ y ≡ tagAt w y)
       at y k = put-other w (i / 2) a b y (λ e. omega arith)
 
       key : wordAt w′ (i / 2) ≡ a
       key = put-word w (i / 2) a b l
 
-      tag : numberAt w′ (i / 2) ≡ b
-      tag = put-number w (i / 2) a b l
+      tag : tagAt w′ (i / 2) ≡ b
+      tag = put-coef w (i / 2) a b l
 
       -- a child that the record is a copy of
-      copy : (x y : ℕ) → x ≡ y → i / 2 < y → (a ≡ wordAt w x) × (b ≡ numberAt w x) → Copy w′ (i / 2) y
+      copy : (x y : ℕ) → x ≡ y → i / 2 < y → (a ≡ wordAt w x) × (b ≡ tagAt w x) → Copy w′ (i / 2) y
       copy x y e k c =
           record {
             key = key ∙ c .0 ∙ ap (wordAt w) e ∙ sym (at y k .0);
-            tag = tag ∙ c .1 ∙ ap (numberAt w) e ∙ sym (at y k .1);
+            tag = tag ∙ c .1 ∙ ap (tagAt w) e ∙ sym (at y k .1);
           }
 
       low : i / 2 < 2 * (i / 2)
@@ -141,7 +144,8 @@ module _ (n : ℕ) where
       high : i / 2 < 2 * (i / 2) + 1
       high = omega arith
 
-      go : ((i ≡ 2 * (i / 2)) × (beside i ≡ 2 * (i / 2) + 1)) ⊎ ((beside i ≡ 2 * (i / 2)) × (i ≡ 2 * (i / 2) + 1)) → ((a ≡ wordAt w i) × (b ≡ numberAt w i)) ⊎ ((a ≡ wordAt w (beside i)) × (b ≡ numberAt w (beside i))) → Holds w′ (i / 2)
+      go : ((i ≡ 2 * (i / 2)) × (beside i ≡ 2 * (i / 2) + 1)) ⊎ ((beside i ≡ 2 * (i / 2)) × (i ≡ 2 * (i / 2) + 1)) →
+          ((a ≡ wordAt w i) × (b ≡ tagAt w i)) ⊎ ((a ≡ wordAt w (beside i)) × (b ≡ tagAt w (beside i))) → Holds w′ (i / 2)
       go (inl e) c =
           record {
             first = omega (arith, key, at (2 * (i / 2)) low .0, ap (wordAt w) (e .0), g .first);
@@ -221,9 +225,9 @@ module _ (n : ℕ) where
     pub from : 1 ≤ i
     pub within : i < 2 * n
     pub key : wordAt w i ≡ a
-    pub tag : numberAt w i ≡ b
+    pub tag : tagAt w i ≡ b
     pub settled : Settled n i w
-    pub leaves : (y : ℕ) → n ≤ y → y < 2 * n → (wordAt w y ≡ wordAt w₀ y) × (numberAt w y ≡ numberAt w₀ y)
+    pub leaves : (y : ℕ) → n ≤ y → y < 2 * n → (wordAt w y ≡ wordAt w₀ y) × (tagAt w y ≡ tagAt w₀ y)
 
   pub climb-starts : (w : List ℕ) (x a b : ℕ) → n ≤ x → x < 2 * n → 1 ≤ x → 4 * n ≤ length w → Settled n x w → Climbing (put w x a b) (put w x a b) x a b
   climb-starts w x a b h k f l s =
@@ -233,12 +237,13 @@ module _ (n : ℕ) where
         from = f;
         within = k;
         key = put-word w x a b (omega arith);
-        tag = put-number w x a b (omega arith);
+        tag = put-coef w x a b (omega arith);
         settled = settled-leaf w x a b h s;
         leaves = λ y g m. (refl, refl);
       }
 
-  pub climb-steps : (w₀ w : List ℕ) (i a b : ℕ) → Climbing w₀ w i a b → 1 < i → (g : Node) → Greater (record { key = a; tag = b }) (record { key = wordAt w (beside i); tag = numberAt w (beside i) }) g → Climbing w₀ (put w (i / 2) (g .key) (g .tag)) (i / 2) (g .key) (g .tag)
+  pub climb-steps : (w₀ w : List ℕ) (i a b : ℕ) → Climbing w₀ w i a b → 1 < i → (g : Node) →
+      Greater (record { key = a; tag = b }) (record { key = wordAt w (beside i); tag = tagAt w (beside i) }) g → Climbing w₀ (put w (i / 2) (g .key) (g .tag)) (i / 2) (g .key) (g .tag)
   climb-steps w₀ w i a b c h g r =
       let l : 2 * (i / 2) + 1 < length w = omega (arith, c .long, c .within) in
       record {
@@ -247,7 +252,7 @@ module _ (n : ℕ) where
         from = omega arith;
         within = omega (arith, c .within);
         key = put-word w (i / 2) (g .key) (g .tag) l;
-        tag = put-number w (i / 2) (g .key) (g .tag) l;
+        tag = put-coef w (i / 2) (g .key) (g .tag) l;
         settled = settled-up w i (g .key) (g .tag) h l best (c .settled);
         leaves =
             λ y f k.
@@ -268,7 +273,8 @@ module _ (n : ℕ) where
                 ];
           }
 
-  pub climb-ends : (w w′ : List ℕ) (x a b k e i a′ b′ : ℕ) → n ≤ x → x < 2 * n → 4 * n ≤ length w → Climbing (put w x a b) w′ i a′ b′ → 1 ≤ e → e < 2 * n → Settled n e w′ → (e ≡ 1) ⊎ (wordAt w′ e ≡ k) → Climbed n x a b k w w′ e
+  pub climb-ends : (w w′ : List ℕ) (x a b k e i a′ b′ : ℕ) → n ≤ x → x < 2 * n → 4 * n ≤ length w → Climbing (put w x a b) w′ i a′ b′ → 1 ≤ e →
+      e < 2 * n → Settled n e w′ → (e ≡ 1) ⊎ (wordAt w′ e ≡ k) → Climbed n x a b k w w′ e
   climb-ends w w′ x a b k e i a′ b′ h l m c from within s found =
       record {
         as-long = c .as-long ∙ put-length w x a b;
@@ -277,7 +283,7 @@ module _ (n : ℕ) where
         settled = s;
         found = found;
         keyed = c .leaves x h l .0 ∙ put-word w x a b (omega arith);
-        tagged = c .leaves x h l .1 ∙ put-number w x a b (omega arith);
+        tagged = c .leaves x h l .1 ∙ put-coef w x a b (omega arith);
         others =
             λ y f g d.
             let p = c .leaves y f g in

@@ -4,28 +4,33 @@
 -- product's word + 1, or 0 where nothing waits; the tag is row · 2^32 + column. With n rows the leaves are the records n to
 -- 2n − 1, and every record from 1 to n − 1 is a copy of the greater of its two children, the records 2j and 2j + 1.
 --
+--   tagAt w j             the tag of record j; its key is `wordAt w j`
 --   Copy w i j            record i is a copy of record j
 --   Holds w j             record j is a copy of a child, and neither child's key is greater
 --   Tree n w              every record from 1 to n − 1 holds
 --   Waits rows cols w i   the leaf of row i is empty, or has its own row, a column that is there, and the key of their product
---   pending, left         the products for which row i waits; those for which n rows from row i on wait
+--   pending, awaited      the products for which row i waits; those for which n rows from row i on wait
 --   Sides p rows cols     words below 2^63 and numbers below p
 --   Live                  all that the tree's functions ask for
 --   Above, Settled        the way from a record to the root; a tree that holds but on such a way
---   Greater, Next, Climbed, Taken, Added, Planted, Built, Started, LeafOf, Moved, Grown, Filled    what the functions promise
+--   Greater, Next, Climbed, Taken, Added, Planted, Built, Started, LeafOf, Moved, Grown    what the functions promise
 use Prim.Native.Nat.{ℕ, zero, suc, _+_, _-_, _*_, _/_, _%_, _^_, _<_, _≤_}
 use mathlib.Core.Path.{_≡_}
 use mathlib.Core.List.{List, [], _∷_, _++_}
 use mathlib.Core.Logic.{_⊎_}
-use lib.ListN.{length}
+use lib.ListN.{length, getD}
 use Rattle.algebra.specs.Monomials.{Numbers}
 use Rattle.algebra.specs.Polynomials.{term, Poly, count, Equal, times, mul}
-use Rattle.poly.specs.Words.{records, wordAt, numberAt, span}
+use Rattle.poly.specs.Words.{records, wordAt, coefAt, span}
 use Rattle.tree.specs.declared.rows.Node.{Node}
+
+-- the tag of record j, its second word
+abbrev pub tagAt : List ℕ → ℕ → ℕ
+tagAt w j = getD w (2 * j + 1) 0
 
 pub record Copy (w : List ℕ) (i j : ℕ) : Type 0 where
   pub key : wordAt w i ≡ wordAt w j
-  pub tag : numberAt w i ≡ numberAt w j
+  pub tag : tagAt w i ≡ tagAt w j
 
 pub record Holds (w : List ℕ) (j : ℕ) : Type 0 where
   pub first : wordAt w (2 * j) ≤ wordAt w j
@@ -49,28 +54,28 @@ unlessEmpty (suc k) f = f
 
 module _ (rows cols : List ℕ) where
   pub record Product (w : List ℕ) (i : ℕ) : Type 0 where
-    pub row : rowOf (numberAt w (records rows + i)) ≡ i
-    pub column : columnOf (numberAt w (records rows + i)) < records cols
-    pub key : wordAt w (records rows + i) ≡ wordAt rows i + wordAt cols (columnOf (numberAt w (records rows + i))) + 1
+    pub row : rowOf (tagAt w (records rows + i)) ≡ i
+    pub column : columnOf (tagAt w (records rows + i)) < records cols
+    pub key : wordAt w (records rows + i) ≡ wordAt rows i + wordAt cols (columnOf (tagAt w (records rows + i))) + 1
 
   pub record Waits (w : List ℕ) (i : ℕ) : Type 0 where
     pub waits : (wordAt w (records rows + i) ≡ 0) ⊎ Product w i
 
   abbrev pub pending : List ℕ → ℕ → Poly Numbers
   pending w i =
-      let column = columnOf (numberAt w (records rows + i)) in
+      let column = columnOf (tagAt w (records rows + i)) in
       unlessEmpty (wordAt w (records rows + i))
-      (times (term (wordAt rows i) (numberAt rows i)) (span cols column (records cols - column)))
+      (times (term (wordAt rows i) (coefAt rows i)) (span cols column (records cols - column)))
 
-  abbrev pub left : List ℕ → ℕ → ℕ → Poly Numbers
-  left w i zero = []
-  left w i (suc n) = pending w i ++ left w (suc i) n
+  abbrev pub awaited : List ℕ → ℕ → ℕ → Poly Numbers
+  awaited w i zero = []
+  awaited w i (suc n) = pending w i ++ awaited w (suc i) n
 
   pub record Sides (p : ℕ) : Type 0 where
     pub rows-words : (i : ℕ) → i < records rows → wordAt rows i < 2 ^ 63
-    pub rows-numbers : (i : ℕ) → i < records rows → numberAt rows i < p
+    pub rows-coefs : (i : ℕ) → i < records rows → coefAt rows i < p
     pub cols-words : (i : ℕ) → i < records cols → wordAt cols i < 2 ^ 63
-    pub cols-numbers : (i : ℕ) → i < records cols → numberAt cols i < p
+    pub cols-coefs : (i : ℕ) → i < records cols → coefAt cols i < p
     pub few : (records rows < 2 ^ 32) × (records cols < 2 ^ 32)
 
   pub record Live (w : List ℕ) : Type 0 where
@@ -108,8 +113,8 @@ pub record Climbed (n x key tag k : ℕ) (w w′ : List ℕ) (e : ℕ) : Type 0 
   pub settled : Settled n e w′
   pub found : (e ≡ 1) ⊎ (wordAt w′ e ≡ k)
   pub keyed : wordAt w′ x ≡ key
-  pub tagged : numberAt w′ x ≡ tag
-  pub others : (y : ℕ) → n ≤ y → y < 2 * n → (y ≡ x → ⊥) → (wordAt w′ y ≡ wordAt w y) × (numberAt w′ y ≡ numberAt w y)
+  pub tagged : tagAt w′ x ≡ tag
+  pub others : (y : ℕ) → n ≤ y → y < 2 * n → (y ≡ x → ⊥) → (wordAt w′ y ≡ wordAt w y) × (tagAt w′ y ≡ tagAt w y)
 
 -- what was taken is r times the monomial of key k, modulo p; no other monomial went; nothing is left there where the columns
 -- fall and no key was greater; and a leaf that was empty still is
@@ -117,8 +122,8 @@ pub record Taken (p : ℕ) (rows cols : List ℕ) (k : ℕ) (w w′ : List ℕ) 
   pub as-long : length w′ ≡ length w
   pub live : Live rows cols w′
   pub small : r < p
-  pub sums : Equal p (left rows cols w 0 (records rows)) (term (k - 1) r ∷ left rows cols w′ 0 (records rows))
-  pub counts : (m : ℕ) → (m ≡ k - 1 → ⊥) → count m (left rows cols w 0 (records rows)) ≡ count m (left rows cols w′ 0 (records rows))
+  pub sums : Equal p (awaited rows cols w 0 (records rows)) (term (k - 1) r ∷ awaited rows cols w′ 0 (records rows))
+  pub counts : (m : ℕ) → (m ≡ k - 1 → ⊥) → count m (awaited rows cols w 0 (records rows)) ≡ count m (awaited rows cols w′ 0 (records rows))
   pub lower : ((i : ℕ) → suc i < records cols → wordAt cols (suc i) < wordAt cols i) → wordAt w 1 ≤ k → wordAt w′ 1 < k
   pub empty : (i : ℕ) → i < records rows → wordAt w (records rows + i) ≡ 0 → wordAt w′ (records rows + i) ≡ 0
 
@@ -128,8 +133,8 @@ pub record Added (rows cols : List ℕ) (row column k : ℕ) (w w′ : List ℕ)
   pub live : Live rows cols w′
   pub before : Poly Numbers
   pub after : Poly Numbers
-  pub was : left rows cols w 0 (records rows) ≡ before ++ after
-  pub becomes : left rows cols w′ 0 (records rows) ≡ before ++ (times (term (wordAt rows row) (numberAt rows row)) (span cols column (records cols - column)) ++ after)
+  pub was : awaited rows cols w 0 (records rows) ≡ before ++ after
+  pub becomes : awaited rows cols w′ 0 (records rows) ≡ before ++ (times (term (wordAt rows row) (coefAt rows row)) (span cols column (records cols - column)) ++ after)
   pub others : (i : ℕ) → i < records rows → (i ≡ row → ⊥) → wordAt w′ (records rows + i) ≡ wordAt w (records rows + i)
   pub lower : wordAt w′ 1 < k
 
@@ -138,36 +143,36 @@ pub record Planted (rows : List ℕ) (word : ℕ) (w : List ℕ) (n : ℕ) (w′
   pub as-long : length w′ ≡ length w
   pub within : n ≤ records rows
   pub keyed : (i : ℕ) → i < n → wordAt w′ (records rows + i) ≡ wordAt rows i + word + 1
-  pub tagged : (i : ℕ) → i < n → numberAt w′ (records rows + i) ≡ i * 2 ^ 32
+  pub tagged : (i : ℕ) → i < n → tagAt w′ (records rows + i) ≡ i * 2 ^ 32
 
 -- the records from j to n − 1 hold, and the leaves are as they were
 pub record Built (n : ℕ) (w : List ℕ) (j : ℕ) (w′ : List ℕ) : Type 0 where
   pub as-long : length w′ ≡ length w
   pub holds : (i : ℕ) → j ≤ i → i < n → Holds w′ i
-  pub leaves : (y : ℕ) → n ≤ y → (wordAt w′ y ≡ wordAt w y) × (numberAt w′ y ≡ numberAt w y)
+  pub leaves : (y : ℕ) → n ≤ y → (wordAt w′ y ≡ wordAt w y) × (tagAt w′ y ≡ tagAt w y)
 
 -- every row waits for its product with every column
 pub record Started (rows cols w w′ : List ℕ) : Type 0 where
   pub as-long : length w′ ≡ length w
   pub live : Live rows cols w′
-  pub whole : left rows cols w′ 0 (records rows) ≡ mul (span rows 0 (records rows)) (span cols 0 (records cols))
+  pub whole : awaited rows cols w′ 0 (records rows) ≡ mul (span rows 0 (records rows)) (span cols 0 (records cols))
 
 -- the leaf of a row in a tree of n rows; an empty record where there is no such row
 pub record LeafOf (n : ℕ) (w : List ℕ) (i : ℕ) (r : Node) : Type 0 where
-  pub there : i < n → (r .key ≡ wordAt w (n + i)) × (r .tag ≡ numberAt w (n + i))
+  pub there : i < n → (r .key ≡ wordAt w (n + i)) × (r .tag ≡ tagAt w (n + i))
   pub none : n ≤ i → r .key ≡ 0
 
 -- of a tree of n rows, the leaves from row i on are where a tree of m rows has them, and nothing waits in its other rows; the
 -- records before them are as they were
 pub record Moved (n m : ℕ) (w : List ℕ) (i : ℕ) (w′ : List ℕ) : Type 0 where
   pub as-long : length w′ ≡ length w
-  pub moved : (y : ℕ) → i ≤ y → y < n → (wordAt w′ (m + y) ≡ wordAt w (n + y)) × (numberAt w′ (m + y) ≡ numberAt w (n + y))
+  pub moved : (y : ℕ) → i ≤ y → y < n → (wordAt w′ (m + y) ≡ wordAt w (n + y)) × (tagAt w′ (m + y) ≡ tagAt w (n + y))
   pub empty : (y : ℕ) → i ≤ y → n ≤ y → y < m → wordAt w′ (m + y) ≡ 0
-  pub before : (y : ℕ) → y < m + i → (wordAt w′ y ≡ wordAt w y) × (numberAt w′ y ≡ numberAt w y)
+  pub before : (y : ℕ) → y < m + i → (wordAt w′ y ≡ wordAt w y) × (tagAt w′ y ≡ tagAt w y)
 
 -- a tree of m rows in which the first n wait as they did, and the others not at all
 pub record Grown (n m : ℕ) (w w′ : List ℕ) : Type 0 where
   pub as-long : length w′ ≡ length w
   pub tree : Tree m w′
-  pub moved : (y : ℕ) → y < n → (wordAt w′ (m + y) ≡ wordAt w (n + y)) × (numberAt w′ (m + y) ≡ numberAt w (n + y))
+  pub moved : (y : ℕ) → y < n → (wordAt w′ (m + y) ≡ wordAt w (n + y)) × (tagAt w′ (m + y) ≡ tagAt w (n + y))
   pub empty : (y : ℕ) → n ≤ y → y < m → wordAt w′ (m + y) ≡ 0

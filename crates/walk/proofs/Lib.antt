@@ -4,5 +4,5 @@ pub mod Greatest
 pub mod Rows
 pub mod Onward
 pub mod Runs
-pub mod Growth
+pub mod Looping
 pub mod Determined

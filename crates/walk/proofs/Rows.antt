@@ -10,44 +10,49 @@ use mathlib.Core.List.{List, [], _++_, append-nil}
 use native.Mathlib.Omega.{arith}
 use lib.ListN.{length}
 use Rattle.algebra.specs.Monomials.{Numbers}
-use Rattle.algebra.specs.Polynomials.{term, Poly, count, times, negated}
+use Rattle.algebra.specs.Polynomials.{term, Poly, count, times, negated, Alike}
 use Rattle.algebra.proofs.Residues.{same-eq}
 use Rattle.algebra.proofs.Totals.{total-append, equal-by}
 use Rattle.algebra.proofs.Ring.{total-negated}
-use Rattle.algebra.proofs.Sorted.{Alike, count-append, count-negated}
-use Rattle.poly.specs.Words.{records, wordAt, numberAt, span}
-use Rattle.tree.specs.Tree.{left, Live, Added}
-use Rattle.poly.proofs.Records.{put, put-length, put-word, put-number}
+use Rattle.algebra.proofs.Sorted.{count-append, count-negated}
+use Rattle.poly.specs.Words.{records, wordAt, coefAt, span}
+use Rattle.tree.specs.Tree.{awaited, Live, Added}
+use Rattle.poly.proofs.Records.{put, put-length, put-word, put-coef}
 use Rattle.tree.proofs.Adding.{row-written}
 use Rattle.walk.specs.Walking.{RowPut}
 
-module _ (g q w : List ℕ) (n word number k : ℕ) (h : n < records q) (empty : wordAt w (records q + n) ≡ 0) (l : Live q g w) (next : List ℕ) (written : next ≡ put q n word number) where
+module _ {g q w : List ℕ} {n : ℕ} (word coef : ℕ) (h : n < records q) (empty : wordAt w (records q + n) ≡ 0) (l : Live q g w) {next : List ℕ} (written : next ≡ put q n word coef) where
   same : records next ≡ records q
-  same = ap records written ∙ ap (λ (x : ℕ). x / 2) (put-length q n word number)
+  same = ap records written ∙ ap (λ (x : ℕ). x / 2) (put-length q n word coef)
 
   inside : 2 * n + 1 < length q
   inside = omega arith
 
   new-word : wordAt next n ≡ word
-  new-word = ap (λ (s : List ℕ). wordAt s n) written ∙ put-word q n word number inside
+  new-word = ap (λ (s : List ℕ). wordAt s n) written ∙ put-word q n word coef inside
 
-  new-number : numberAt next n ≡ number
-  new-number = ap (λ (s : List ℕ). numberAt s n) written ∙ put-number q n word number inside
+  new-coef : coefAt next n ≡ coef
+  new-coef = ap (λ (s : List ℕ). coefAt s n) written ∙ put-coef q n word coef inside
 
   live : Live next g w
-  live = subst (λ (s : List ℕ). Live s g w) (sym written) (row-written q g w n word number empty l .0)
+  live = subst (λ (s : List ℕ). Live s g w) (sym written) (row-written q g w n word coef empty l .0)
 
-  waits : left q g w 0 (records q) ≡ left next g w 0 (records next)
-  waits = row-written q g w n word number empty l .1 ∙ ap (λ (s : List ℕ). left s g w 0 (records s)) (sym written)
+  waits : awaited q g w 0 (records q) ≡ awaited next g w 0 (records next)
+  waits = row-written q g w n word coef empty l .1 ∙ ap (λ (s : List ℕ). awaited s g w 0 (records s)) (sym written)
 
-  pub row-ready : records q < 2 ^ 32 → records g < 2 ^ 32 → 1 < records g → ((i : ℕ) → suc i < records g → wordAt g (suc i) < wordAt g i) → word + wordAt g 0 + 1 ≡ k → wordAt w 1 < k → ((n < records next) × (records next < 2 ^ 32) × (1 < records g) × (records g < 2 ^ 32)) × (((wordAt w (records next + n) ≡ 0) × (wordAt next n + wordAt g 1 + 1 < k) × (wordAt w 1 < k)) × Live next g w)
+  pub row-ready : {k : ℕ} →
+      records q < 2 ^ 32 → records g < 2 ^ 32 → 1 < records g →
+      ((i : ℕ) → suc i < records g → wordAt g (suc i) < wordAt g i) →
+      word + wordAt g 0 + 1 ≡ k → wordAt w 1 < k →
+      ((n < records next) × (records next < 2 ^ 32) × (1 < records g) × (records g < 2 ^ 32)) ×
+      (((wordAt w (records next + n) ≡ 0) × (wordAt next n + wordAt g 1 + 1 < k) × (wordAt w 1 < k)) × Live next g w)
   row-ready few fewer some falls key root = (
     (omega (arith, same), omega (arith, same), some, fewer),
     ((ap (λ x. wordAt w (x + n)) same ∙ empty, omega (arith, new-word, falls 0 some), root), live),
   )
 
-  pub row-more : (w′ : List ℕ) → Added next g n 1 k w w′ → RowPut g q w n word number k next w′
-  row-more w′ a =
+  pub row-more : {k : ℕ} {w′ : List ℕ} → Added next g n 1 k w w′ → RowPut g q w n word coef k next w′
+  row-more {k} {w′} a =
       record {
         written = written;
         as-long = a .as-long;
@@ -55,25 +60,25 @@ module _ (g q w : List ℕ) (n word number k : ℕ) (h : n < records q) (empty :
         before = a .before;
         after = a .after;
         was = waits ∙ a .was;
-        becomes = a .becomes ∙ (λ d. a .before ++ (times (term (new-word d) (new-number d)) (span g 1 (records g - 1)) ++ a .after));
+        becomes = a .becomes ∙ (λ d. a .before ++ (times (term (new-word d) (new-coef d)) (span g 1 (records g - 1)) ++ a .after));
         others = λ x b k. ap (λ y. wordAt w′ (y + x)) (sym same) ∙ a .others x (omega (arith, same)) k ∙ ap (λ y. wordAt w (y + x)) same;
         lower = a .lower;
       }
 
-  pub row-alone : records g ≡ 1 → wordAt w 1 < k → RowPut g q w n word number k next w
+  pub row-alone : {k : ℕ} → records g ≡ 1 → wordAt w 1 < k → RowPut g q w n word coef k next w
   row-alone one root =
       let none : records g - 1 ≡ 0 = omega arith in
       record {
         written = written;
         as-long = refl;
         live = live;
-        before = left q g w 0 (records q);
+        before = awaited q g w 0 (records q);
         after = [];
-        was = sym (append-nil (left q g w 0 (records q)));
+        was = sym (append-nil (awaited q g w 0 (records q)));
         becomes =
             sym waits
-            ∙ sym (append-nil (left q g w 0 (records q)))
-            ∙ ap (λ x. left q g w 0 (records q) ++ (times (term {K = Numbers} word number) (span g 1 x) ++ [])) (sym none);
+            ∙ sym (append-nil (awaited q g w 0 (records q)))
+            ∙ ap (λ x. awaited q g w 0 (records q) ++ (times (term {K = Numbers} word coef) (span g 1 x) ++ [])) (sym none);
         others = λ x b k. refl;
         lower = root;
       }

@@ -1,43 +1,36 @@
 -- The walk on words, step by step: what the engine's own functions promise one another. No caller of a public function meets it.
 --
 -- Quotient terms are the rows of a tree, the divisor's terms its columns, from the second on; the front of the quotient room is
--- itself the slice of rows, zero records where nothing is written yet, and grows with the quotient. A key is a monomial word + 1, and 0 where there is none.
+-- itself the slice of rows, zero records where nothing is written yet, and grows with the quotient.
 --
---   keyAt f i            the key of record i, 0 behind the last
---   rest p f g q w i     what remains: the dividend's terms from record i on, less the products for which the tree waits
---   seen p h             the terms of h, one for each monomial, the greatest first, words read as exponents
---   judgesOf             the stops of a call: division's, or the divide test's
---   quotientReply        what the judge of quotient terms says of a word
---   Ready                all that a walk asks of its inputs, and what was computed once
---   Walking              a walk that has come to record i of the dividend, with n quotient and j remainder terms written
---   Fresh                rooms and work in which a walk may start
---   Headed               the greatest monomial was taken out of what remains
---   RowPut               a quotient term was written, and its products wait in the tree
+--   remaining p f g q w i    what remains: the dividend's terms from record i on, less the products for which the tree waits
+--   seen p h                 the terms of h, one for each monomial, the greatest first, words read as exponents
+--   whole, walkOn            all of the walk, and the walk on from what remains
+--   Walking                  a walk that has come to record i of the dividend, with n quotient and j remainder terms written
+--   Fresh                    rooms and work in which a walk may start
+--   Headed                   the greatest monomial was taken out of what remains
+--   RowPut                   a quotient term was written, and its products wait in the tree
 --   Stepped, Enough, Ran     what a step, the growing tree and the whole loop promise
 use Prim.Native.Nat.{ℕ, _+_, _-_, _*_, _^_, _<_, _≤_, max}
 use mathlib.Core.Path.{_≡_}
-use mathlib.Core.Bool.{true}
 use mathlib.Core.List.{List, [], _∷_, _++_}
 use mathlib.Core.Logic.{_⊎_}
 use lib.ListN.{length, set}
 use Rattle.algebra.specs.Monomials.{Letters, Numbers}
 use Rattle.algebra.specs.Orders.{Lex, Rising}
-use Rattle.algebra.specs.Polynomials.{term, Poly, times, negated, sorted, All}
-use Rattle.algebra.specs.Walk.{Walked, stopped, walk}
-use Rattle.algebra.proofs.Sorted.{Alike}
-use Rattle.algebra.proofs.Clauses.{joined}
-use Rattle.monomial.specs.Layout.{base, isMonomial}
-use Rattle.poly.specs.Words.{records, wordAt, numberAt, termAt, terms, span, polyOf}
-use Rattle.poly.proofs.Readings.{decodedPoly}
-use Rattle.tree.specs.Tree.{left, Live, Sides, Grown}
+use Rattle.algebra.specs.Polynomials.{term, Poly, times, negated, sorted, Alike}
+use Rattle.algebra.specs.Walk.{Walked, stopped, walk, joined}
+use Rattle.monomial.specs.Layout.{base}
+use Rattle.poly.specs.Words.{records, wordAt, coefAt, termAt, terms, span, polyOf, decodedPoly, Monomial}
+use Rattle.tree.specs.Tree.{awaited, Live, Sides, Grown}
 use Rattle.judges.specs.Judges.{walkBy}
 use Rattle.judges.specs.declared.Plan.{Plan}
 use Rattle.walk.specs.declared.steps.State.{State}
 use Rattle.judges.specs.Plans.{judgesOf}
 use Rattle.poly.specs.Keys.{keyAt}
 
-abbrev pub rest : ℕ → List ℕ → List ℕ → List ℕ → List ℕ → ℕ → Poly Numbers
-rest p f g q w i = span f i (records f - i) ++ negated p (left q g w 0 (records q))
+abbrev pub remaining : ℕ → List ℕ → List ℕ → List ℕ → List ℕ → ℕ → Poly Numbers
+remaining p f g q w i = span f i (records f - i) ++ negated p (awaited q g w 0 (records q))
 
 abbrev pub seen : ℕ → Poly Numbers → Poly (Letters 4)
 seen p h = decodedPoly base (sorted Rising p h)
@@ -58,12 +51,14 @@ pub record Walking (p : ℕ) (f g : List ℕ) (plan : Plan) (q r w : List ℕ) (
   pub remainder-within : j ≤ records r
   pub unwritten : (x : ℕ) → n ≤ x → x < records q → wordAt w (records q + x) ≡ 0
   pub idle : records q ≡ 0 → wordAt w 1 ≡ 0
-  pub monomials : All {K = Numbers} (λ m. isMonomial base m ≡ true) (rest p f g q w i)
-  pub quotient-monomials : All {K = Numbers} (λ m. isMonomial base m ≡ true) (span q 0 n)
-  pub remainder-monomials : All {K = Numbers} (λ m. isMonomial base m ≡ true) (span r 0 j)
+  pub monomials : Monomial (remaining p f g q w i)
+  pub quotient-monomials : Monomial (span q 0 n)
+  pub remainder-monomials : Monomial (span r 0 j)
   pub fuel : ℕ
   pub enough : max (keyAt f i) (wordAt w 1) ≤ fuel
-  pub walked : whole p f g plan ≡ joined (decodedPoly base (span q 0 n)) (decodedPoly base (span r 0 j)) (walkOn p f g plan fuel n j (seen p (rest p f g q w i)))
+  pub walked :
+      whole p f g plan ≡
+      joined (decodedPoly base (span q 0 n)) (decodedPoly base (span r 0 j)) (walkOn p f g plan fuel n j (seen p (remaining p f g q w i)))
 
 -- the rooms and the work, in which a walk may start: the records of the quotient room may be rows, and the work is long enough
 pub record Fresh (p : ℕ) (plan : Plan) (q r w : List ℕ) : Type 0 where
@@ -71,9 +66,9 @@ pub record Fresh (p : ℕ) (plan : Plan) (q r w : List ℕ) : Type 0 where
   pub remainders : plan .remainders ≡ records r
   pub long : 4 * records q ≤ length w
   pub few : records q < 2 ^ 32
-  pub small : (x : ℕ) → x < records q → (wordAt q x < 2 ^ 63) × (numberAt q x < p)
+  pub small : (x : ℕ) → x < records q → (wordAt q x < 2 ^ 63) × (coefAt q x < p)
 
--- what remains is the monomial of key k, c times, and the rest from record i′ on, with no key as great
+-- what remains is the monomial of key k, c times, and the remaining from record i′ on, with no key as great
 pub record Headed (p : ℕ) (f g q w : List ℕ) (i k : ℕ) (w′ : List ℕ) (i′ c : ℕ) : Type 0 where
   pub as-long : length w′ ≡ length w
   pub live : Live q g w′
@@ -81,18 +76,18 @@ pub record Headed (p : ℕ) (f g q w : List ℕ) (i k : ℕ) (w′ : List ℕ) (
   pub within : i′ ≤ records f
   pub empty : (x : ℕ) → x < records q → wordAt w (records q + x) ≡ 0 → wordAt w′ (records q + x) ≡ 0
   pub idle : records q ≡ 0 → wordAt w′ 1 ≡ 0
-  pub alike : Alike p (rest p f g q w i) (term (k - 1) c ∷ rest p f g q w′ i′)
+  pub alike : Alike p (remaining p f g q w i) (term (k - 1) c ∷ remaining p f g q w′ i′)
   pub lower : max (keyAt f i′) (wordAt w′ 1) < k
 
--- record n of the quotient room is a word and a number, and what waited before still does
-pub record RowPut (g q w : List ℕ) (n word number k : ℕ) (q′ w′ : List ℕ) : Type 0 where
-  pub written : q′ ≡ set (set q (2 * n) word) (2 * n + 1) number
+-- record n of the quotient room is a word and a coef, and what waited before still does
+pub record RowPut (g q w : List ℕ) (n word coef k : ℕ) (q′ w′ : List ℕ) : Type 0 where
+  pub written : q′ ≡ set (set q (2 * n) word) (2 * n + 1) coef
   pub as-long : length w′ ≡ length w
   pub live : Live q′ g w′
   pub before : Poly Numbers
   pub after : Poly Numbers
-  pub was : left q g w 0 (records q) ≡ before ++ after
-  pub becomes : left q′ g w′ 0 (records q′) ≡ before ++ (times (term word number) (span g 1 (records g - 1)) ++ after)
+  pub was : awaited q g w 0 (records q) ≡ before ++ after
+  pub becomes : awaited q′ g w′ 0 (records q′) ≡ before ++ (times (term word coef) (span g 1 (records g - 1)) ++ after)
   pub others : (x : ℕ) → x < records q → (x ≡ n → ⊥) → wordAt w′ (records q + x) ≡ wordAt w (records q + x)
   pub lower : wordAt w′ 1 < k
 
@@ -118,6 +113,7 @@ pub record Ran (p : ℕ) (f g : List ℕ) (plan : Plan) (q r w q′ r′ w′ : 
   pub replies : whole p f g plan .reply ≡ s .reply
   pub quotient-within : s .reply ≡ 0 → s .quotient ≤ records q
   pub remainder-within : s .reply ≡ 0 → s .remainder ≤ records r
-  pub quotient-monomials : s .reply ≡ 0 → All {K = Numbers} (λ m. isMonomial base m ≡ true) (span q′ 0 (s .quotient))
-  pub remainder-monomials : s .reply ≡ 0 → All {K = Numbers} (λ m. isMonomial base m ≡ true) (span r′ 0 (s .remainder))
-  pub ends : s .reply ≡ 0 → whole p f g plan ≡ joined (decodedPoly base (span q′ 0 (s .quotient))) (decodedPoly base (span r′ 0 (s .remainder))) (stopped 0 [])
+  pub quotient-monomials : s .reply ≡ 0 → Monomial (span q′ 0 (s .quotient))
+  pub remainder-monomials : s .reply ≡ 0 → Monomial (span r′ 0 (s .remainder))
+  pub ends : s .reply ≡ 0 →
+      whole p f g plan ≡ joined (decodedPoly base (span q′ 0 (s .quotient))) (decodedPoly base (span r′ 0 (s .remainder))) (stopped 0 [])

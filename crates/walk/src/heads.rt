@@ -9,14 +9,11 @@ ghost use Rattle.poly.specs.Keys.{keyAt};
 ghost use Rattle.walk.specs.Walking.{Headed};
 use field::add_mod;
 use field::neg_mod;
+use poly::keys::Head;
+use poly::keys::head_at;
 use poly::keys::key_at;
+use poly::numbers::greater;
 use tree::rows::take;
-
-// The dividend's next place, and the coefficient of the monomial.
-pub struct Head {
-    pub next: usize,
-    pub number: u64,
-}
 
 // Takes the greatest monomial, whose key is given, out of what remains.
 pub fn take_head(
@@ -31,20 +28,12 @@ pub fn take_head(
     requires { ⌜ (0 < p) × (p ≤ limit) × (0 < k) × (k ≡ max (keyAt (now f) i) (wordAt (now work) 1)) × (i ≤ records (now f)) ⌝ }
     requires { ⌜ (Valid p (now f)) × (Valid p (now g)) × (Sides (now q) (now g) p) ⌝ }
     requires { ⌜ (Live (now q) (now g) (now work)) × (records (now q) ≡ 0 → wordAt (now work) 1 ≡ 0) ⌝ }
-    ensures { λ r. ⌜ Headed p (now (f .entry)) (now (g .entry)) (now (q .entry)) (now (work .entry)) i k (now (work .exit)) (r .next) (r .number) ⌝ }
+    ensures { λ r. ⌜ Headed p (now (f .entry)) (now (g .entry)) (now (q .entry)) (now (work .entry)) i k (now (work .exit)) (r .next) (r .coef) ⌝ }
 {
     let minus = neg_mod(p, take_at(p, q, g, work, k));
-    if key_at(f, i) == k {
-        Head {
-            next: i + 1,
-            number: add_mod(p, f[2 * i + 1], minus),
-        }
-    } else {
-        Head {
-            next: i,
-            number: minus,
-        }
-    }
+    let mut h = head_at(f, i, k);
+    h.coef = add_mod(p, h.coef, minus);
+    h
 }
 
 // Takes all that waits at key k; in an empty quotient room nothing ever waits.
@@ -71,7 +60,5 @@ pub fn greatest_key(f: &[u64], work: &[u64], i: usize) -> u64
     requires { ⌜ (i < records (now f) → wordAt (now f) i < 2 ^ 63) ⌝ }
     ensures { λ r. ⌜ r ≡ max (keyAt (now (f .entry)) i) (wordAt (now (work .entry)) 1) ⌝ }
 {
-    let first = key_at(f, i);
-    let second = root(work);
-    if first < second { second } else { first }
+    greater(key_at(f, i), root(work))
 }

@@ -1,6 +1,5 @@
 // The walk: one step after another, until nothing remains or a judge stops it.
 ghost use mathlib.Core.Path.{_≡_};
-ghost use mathlib.Core.Logic.{_⊎_};
 ghost use Prim.Native.Nat.{ℕ, _*_, _<_, _≤_};
 ghost use lib.ListN.{length, getD};
 ghost use Rattle.judges.specs.Plans.{Ready};
@@ -13,12 +12,14 @@ use crate::heads::greatest_key;
 use crate::steps::State;
 use crate::steps::step;
 use judges::Plan;
+use poly::numbers::smaller;
 use poly::room::clear;
 use tree::growth::grow;
 
 // The rows of a new tree. It grows with the quotient, so that a room much longer than the quotient costs nothing.
 const FIRST_ROWS: usize = 16;
 
+// Walks down f by the divisor g, as the plan has it: the quotient in q, the remainder in r.
 pub fn run(
     p: u64,
     f: &[u64],
@@ -33,7 +34,7 @@ pub fn run(
     ensures { λ s. ⌜ Ran p (now (f .entry)) (now (g .entry)) plan (now (q .entry)) (now (r .entry)) (now (work .entry)) (now (q .exit)) (now (r .exit)) (now (work .exit)) s ⌝ }
 {
     let room = q.len() / 2;
-    let mut rows = least(FIRST_ROWS, room);
+    let mut rows = smaller(FIRST_ROWS, room);
     clear_front(work, 4 * FIRST_ROWS);
     let mut s = State {
         next: 0,
@@ -57,7 +58,7 @@ pub fn run(
 fn clear_front(work: &mut [u64], words: usize)
     ensures { λ r. ⌜ (length (now (work .exit)) ≡ length (now (work .entry))) × ((i : ℕ) → i < words → getD (now (work .exit)) i 0 ≡ 0) ⌝ }
 {
-    let count = least(words, work.len());
+    let count = smaller(words, work.len());
     clear(&mut work[..count], 0);
 }
 
@@ -72,13 +73,7 @@ fn enough_rows(work: &mut [u64], rows: usize, taken: usize, room: usize) -> usiz
     if rows == room {
         return rows;
     }
-    let more = least(2 * rows, room);
+    let more = smaller(2 * rows, room);
     grow(work, rows, more);
     more
-}
-
-fn least(a: usize, b: usize) -> usize
-    ensures { λ r. ⌜ (r ≤ a) × (r ≤ b) × ((r ≡ a) ⊎ (r ≡ b)) ⌝ }
-{
-    if a < b { a } else { b }
 }

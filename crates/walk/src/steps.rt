@@ -48,7 +48,7 @@ pub fn step(
         remainder: j,
         reply: 0,
     };
-    if h.number == 0 {
+    if h.coef == 0 {
         return t;
     }
     let monomial = k - 1;
@@ -56,27 +56,28 @@ pub fn step(
         let word = monomial - g[0];
         t.reply = judge_quotient(plan, word, n);
         if t.reply == 0 {
-            put_row(g, q, work, n, word, mul_mod(p, h.number, plan.inverse), k);
+            put_row(g, q, work, n, word, mul_mod(p, h.coef, plan.inverse), k);
             t.quotient = n + 1;
         }
         return t;
     }
     t.reply = judge_remainder(plan, j);
     if t.reply == 0 {
-        put_term(r, j, monomial, h.number);
+        put_term(r, j, monomial, h.coef);
         t.remainder = j + 1;
     }
     t
 }
 
 // Writes a quotient term and lets its products wait, from the divisor's second term on.
-fn put_row(g: &[u64], q: &mut [u64], work: &mut [u64], n: usize, word: u64, number: u64, k: u64)
-    requires { ⌜ (n < records (now q)) × (records (now q) < 2 ^ 32) × (0 < records (now g)) × (records (now g) < 2 ^ 32) × ((i : ℕ) → suc i < records (now g) → wordAt (now g) (suc i) < wordAt (now g) i) ⌝ }
+fn put_row(g: &[u64], q: &mut [u64], work: &mut [u64], n: usize, word: u64, coef: u64, k: u64)
+    requires { ⌜ (n < records (now q)) × (records (now q) < 2 ^ 32) × (0 < records (now g)) × (records (now g) < 2 ^ 32)
+        × ((i : ℕ) → suc i < records (now g) → wordAt (now g) (suc i) < wordAt (now g) i) ⌝ }
     requires { ⌜ (wordAt (now work) (records (now q) + n) ≡ 0) × (word + wordAt (now g) 0 + 1 ≡ k) × (wordAt (now work) 1 < k) ⌝ }
     requires { ⌜ Live (now q) (now g) (now work) ⌝ }
-    ensures { λ r. ⌜ RowPut (now (g .entry)) (now (q .entry)) (now (work .entry)) n word number k (now (q .exit)) (now (work .exit)) ⌝ }
+    ensures { λ r. ⌜ RowPut (now (g .entry)) (now (q .entry)) (now (work .entry)) n word coef k (now (q .exit)) (now (work .exit)) ⌝ }
 {
-    put_term(q, n, word, number);
+    put_term(q, n, word, coef);
     if g.len() / 2 == 1 {
         return;
     }

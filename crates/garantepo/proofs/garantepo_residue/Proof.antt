@@ -1,4 +1,4 @@
--- `host::garantepo_residue` meets its contract: the signed number that it passes on is the one that it was given.
+-- `garantepo::garantepo_residue` meets its contract: the signed number that it passes on is the one that it was given.
 use mathlib.Core.Path.{_∙_, ap}
 use borrow.Author.Needs.{needs}
 use mir.Syntax.{w32}

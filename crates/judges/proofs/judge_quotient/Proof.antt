@@ -1,6 +1,7 @@
 -- `judges::judge_quotient` meets its contract.
-use Prim.Native.Nat.{_+_, _^_, _<_}
-use mathlib.Core.Path.{sym, _∙_}
+use Prim.Native.Nat.{ℕ, _+_, _^_, _<_}
+use mathlib.Core.Path.{sym, _∙_, ap}
+use mathlib.Core.Bool.{Bool}
 use native.Mathlib.Omega.{arith}
 use Rattle.algebra.specs.Residues.{pick}
 use Rattle.monomial.specs.Layout.{base}
@@ -12,7 +13,8 @@ use Rattle.judges.proofs.judge_quotient.Tie as tie
 
 add-sum : tie.Need-add-sum
 add-sum c =
-    let small : c .before .args .word + c .before .args .plan .divisor < 2 ^ 64 = sum-below base (c .before .args .word) (c .before .args .plan .divisor) (c .before .pre .0) (c .before .pre .1) in
+    let a = c .before .args in
+    let small : a .word + a .plan .maxima < 2 ^ 64 = sum-below base (a .word) (a .plan .maxima) (c .before .pre .0) (c .before .pre .1) in
     omega arith
 
 unless-full-requires : tie.Need-unless-full-requires
@@ -30,15 +32,25 @@ is-monomial-requires c κs = search needs
 choose-requires-2 : tie.Need-choose-requires-2
 choose-requires-2 c κs = search needs
 
+-- the reply of a division or of a test
+abbrev reply : tie.After-unless-full → Bool → ℕ
+reply c test =
+    let a = c .before .before .args in
+    quotientReply test (a .plan .maxima) (a .plan .bounds) (a .plan .quotients) (a .word) (a .terms)
+
 returns : tie.Need-returns
 returns c =
-    let a = c .before .before .before .before .before .args in
-    c .choose .ensures ∙ (λ d. pick (c .before .divides .ensures d) (c .before .before .before .unless-full .ensures d) 12) ∙ (λ d. quotientReply (sym (c .before .before .if1 .taken) d) (a .plan .divisor) (a .plan .dividend) (a .plan .quotients) (a .word) (a .terms))
+    let judged = c .before .before .before in
+    c .choose .ensures
+    ∙ (λ d. pick (c .before .divides .ensures d) (judged .unless-full .ensures d) 12)
+    ∙ ap (reply judged) (sym (c .before .before .if1 .taken))
 
 returns-2 : tie.Need-returns-2
 returns-2 c =
-    let a = c .before .before .before .before .before .args in
-    c .choose2 .ensures ∙ (λ d. pick (c .before .is-monomial .ensures d) (c .before .before .before .unless-full .ensures d) 9) ∙ (λ d. quotientReply (sym (c .before .before .if1 .left) d) (a .plan .divisor) (a .plan .dividend) (a .plan .quotients) (a .word) (a .terms))
+    let judged = c .before .before .before in
+    c .choose2 .ensures
+    ∙ (λ d. pick (c .before .is-monomial .ensures d) (judged .unless-full .ensures d) 9)
+    ∙ ap (reply judged) (sym (c .before .before .if1 .left))
 
 pub judge-quotient-spec : {M : Type 1} → statement M
 judge-quotient-spec =

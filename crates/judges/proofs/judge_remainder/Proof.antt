@@ -12,7 +12,9 @@ unless-full-requires : tie.Need-unless-full-requires
 unless-full-requires c κs = search needs
 
 returns-2 : tie.Need-returns-2
-returns-2 c = c .unless-full .ensures ∙ (λ d. remainderReply (sym (c .before .if1 .left) d) (c .before .before .args .plan .remainders) (c .before .before .args .terms))
+returns-2 c =
+    let a = c .before .before .args in
+    c .unless-full .ensures ∙ (λ d. remainderReply (sym (c .before .if1 .left) d) (a .plan .remainders) (a .terms))
 
 pub judge-remainder-spec : {M : Type 1} → statement M
 judge-remainder-spec = tie.close (tie.spec returns unless-full-requires returns-2)

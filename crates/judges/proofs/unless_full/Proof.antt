@@ -6,10 +6,10 @@ use Rattle.judges.proofs.unless_full.Statement.{statement}
 use Rattle.judges.proofs.unless_full.Tie as tie
 
 returns : tie.Need-returns
-returns c = sym (ap (λ b. pick b 0 (c .before .args .reply)) (lt-ltb (c .before .args .terms) (c .before .args .room) (c .if1 .taken)))
+returns c = let a = c .before .args in sym (ap (λ b. pick b 0 (a .reply)) (lt-ltb (a .terms) (a .room) (c .if1 .taken)))
 
 returns-2 : tie.Need-returns-2
-returns-2 c = sym (ap (λ b. pick b 0 (c .before .args .reply)) (le-ltb (c .before .args .terms) (c .before .args .room) (c .if1 .left)))
+returns-2 c = let a = c .before .args in sym (ap (λ b. pick b 0 (a .reply)) (le-ltb (a .terms) (a .room) (c .if1 .left)))
 
 pub unless-full-spec : {M : Type 1} → statement M
 unless-full-spec = tie.close (tie.spec returns returns-2)

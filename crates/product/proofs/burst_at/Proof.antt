@@ -1,117 +1,117 @@
--- `product::burst_at` meets its contract: the letters before the one found, and all where none is found, do not burst.
-use Prim.Native.Nat.{ℕ, _+_, _≤_, _<_}
-use mathlib.Core.Path.{_≡_, sym}
+-- `product::burst_at` meets its contract: the letters that were tried do not burst.
+use Prim.Native.Nat.{ℕ, _+_, _-_, _≤_}
+use mathlib.Core.Path.{_≡_, refl, sym, _∙_, ap}
+use mathlib.Core.Bool.{Bool}
 use native.Mathlib.Omega.{arith}
-use borrow.Author.Count.{below-none, below-more}
-use lib.Dec.{lit<}
+use lib.Dec.{ltb}
 use lib.ListN.{getD}
-use Rattle.algebra.specs.Monomials.{exponent}
-use Rattle.algebra.specs.Polynomials.{largest}
+use borrow.Author.Tests.{lt-ltb, le-ltb}
+use borrow.Author.Needs.{needs}
+use Rattle.algebra.specs.Residues.{first}
+use Rattle.algebra.proofs.Scan.{first-stop, first-up}
 use Rattle.monomial.specs.Layout.{base}
 use Rattle.poly.specs.Words.{polyOf}
 use Rattle.poly.proofs.Maxima.{exponents-of}
-use Rattle.product.proofs.Bursts.{burst-found, burst-none}
-use borrow.Author.Needs.{needs}
+use Rattle.product.specs.Products.{burstAt}
+use Rattle.product.proofs.Bursts.{bursts, bursts-test}
 use Rattle.product.proofs.burst_at.Statement.{statement}
 use Rattle.product.proofs.burst_at.Tie as tie
 
-measure-requires : tie.Need-measure-requires
+abbrev Inv-loop : tie.InvT-loop
+Inv-loop f g a b v₀ v =
+    (v ≤ 4) × (first (bursts (polyOf base f) (polyOf base g)) v (4 - v) ≡ burstAt (polyOf base f) (polyOf base g))
+
+abbrev μ-loop : tie.MeasureT-loop
+μ-loop f g a b v₀ v = 4 - v
+
+measure-requires : tie.Need-measure-requires Inv-loop μ-loop
 measure-requires c κs = search needs
 
-measure-requires-2 : tie.Need-measure-requires-2
+measure-requires-2 : tie.Need-measure-requires-2 Inv-loop μ-loop
 measure-requires-2 c κs = search needs
 
-array-read-if1 : tie.Need-array-read-if1
+loop-holds : tie.Need-loop-holds Inv-loop μ-loop
+loop-holds c = (omega arith, refl)
+
+-- the exponents of both, as they were measured
+abbrev first-measured : tie.At-loop Inv-loop μ-loop → tie.After-measure Inv-loop μ-loop
+first-measured c = c .before .before .before .before
+
+abbrev start : tie.At-loop Inv-loop μ-loop → tie.Start Inv-loop μ-loop
+start c = first-measured c .before .before .before
+
+-- the test of a letter, and its law
+abbrev tried : tie.At-loop Inv-loop μ-loop → ℕ → Bool
+tried c = bursts (polyOf base (start c .args .f .now)) (polyOf base (start c .args .g .now))
+
+test : (c : tie.In-loop Inv-loop μ-loop) → let m = c .before in
+    ltb 32767 (getD (first-measured m .measure .result .exponents) (m .loop .v) 0 + getD (m .before .before .measure2 .result .exponents) (m .loop .v) 0) ≡ tried m (m .loop .v)
+test c = let m = c .before in bursts-test _ _ (first-measured m .measure .ensures) (m .before .before .measure2 .ensures) _ (c .loop-test .taken)
+
+mul-if1 : tie.Need-mul-if1 Inv-loop μ-loop
+mul-if1 c = omega (arith, c .loop-test .taken)
+
+array-read-if1 : tie.Need-array-read-if1 Inv-loop μ-loop
 array-read-if1 c = search needs
 
-array-read-if1-2 : tie.Need-array-read-if1-2
+mul-if1-2 : tie.Need-mul-if1-2 Inv-loop μ-loop
+mul-if1-2 c = omega (arith, c .loop-test .taken)
+
+array-read-if1-2 : tie.Need-array-read-if1-2 Inv-loop μ-loop
 array-read-if1-2 c = search needs
 
--- the numbers that are added are the largest exponents
-first-of : (c : tie.After-b) (v : ℕ) → v < 4 → getD (c .before .before .before .measure .result .exponents) v 0 ≡ largest (exponent 4 v) (polyOf base (c .before .before .before .before .before .before .args .f .now))
-first-of c = exponents-of _ (c .before .before .before .measure .ensures)
+add-if1 : tie.Need-add-if1 Inv-loop μ-loop
+add-if1 c =
+    let m = c .before in
+    let v = m .loop .v in
+    omega (
+      arith,
+      exponents-of _ (first-measured m .measure .ensures) v (c .loop-test .taken),
+      exponents-of _ (m .before .before .measure2 .ensures) v (c .loop-test .taken),
+      start m .pre .0 v,
+      start m .pre .1 v,
+    )
 
-second-of : (c : tie.After-b) (v : ℕ) → v < 4 → getD (c .before .measure2 .result .exponents) v 0 ≡ largest (exponent 4 v) (polyOf base (c .before .before .before .before .before .before .args .g .now))
-second-of c = exponents-of _ (c .before .measure2 .ensures)
+returns : tie.Need-returns Inv-loop μ-loop
+returns c =
+    let m = c .before .before in
+    sym (first-stop (tried m) (m .loop .v) 4 (c .before .loop-test .taken) (sym (test (c .before)) ∙ lt-ltb 32767 _ (c .if1 .taken))) ∙ m .loop .inv .1
 
-add-if1 : tie.Need-add-if1
-add-if1 c = omega (arith, first-of (c) 0 (lit< tt), second-of (c) 0 (lit< tt), c .before .before .before .before .before .before .pre .0 0, c .before .before .before .before .before .before .pre .1 0)
+add-v : tie.Need-add-v Inv-loop μ-loop
+add-v c = omega (arith, c .before .loop-test .taken)
 
--- the letters that have been tried
-small-1 : (c : tie.Else1) (k : ℕ) → k < 1 → largest (exponent 4 k) (polyOf base (c .before .before .before .before .before .before .before .args .f .now)) + largest (exponent 4 k) (polyOf base (c .before .before .before .before .before .before .before .args .g .now)) ≤ 32767
-small-1 c = below-more _ 0 (below-none _) (omega (arith, first-of (c .before) 0 (lit< tt), second-of (c .before) 0 (lit< tt), c .if1 .left))
+loop-less : tie.Need-loop-less Inv-loop μ-loop
+loop-less c = omega (arith, c .before .loop-test .taken)
 
-small-2 : (c : tie.Else2) (k : ℕ) → k < 2 → largest (exponent 4 k) (polyOf base (c .before .before .before .before .before .before .before .before .args .f .now)) + largest (exponent 4 k) (polyOf base (c .before .before .before .before .before .before .before .before .args .g .now)) ≤ 32767
-small-2 c = below-more _ 1 (small-1 (c .before)) (omega (arith, first-of (c .before .before) 1 (lit< tt), second-of (c .before .before) 1 (lit< tt), c .if2 .left))
+loop-again : tie.Need-loop-again Inv-loop μ-loop
+loop-again c =
+    let m = c .before .before in (
+      omega (arith, c .before .loop-test .taken),
+      sym (first-up (tried m) (m .loop .v) 4 (c .before .loop-test .taken) (sym (test (c .before)) ∙ le-ltb 32767 _ (c .if1 .left))) ∙ m .loop .inv .1,
+    )
 
-small-3 : (c : tie.Else3) (k : ℕ) → k < 3 → largest (exponent 4 k) (polyOf base (c .before .before .before .before .before .before .before .before .before .args .f .now)) + largest (exponent 4 k) (polyOf base (c .before .before .before .before .before .before .before .before .before .args .g .now)) ≤ 32767
-small-3 c = below-more _ 2 (small-2 (c .before)) (omega (arith, first-of (c .before .before .before) 2 (lit< tt), second-of (c .before .before .before) 2 (lit< tt), c .if3 .left))
-
-small-4 : (c : tie.Else4) (k : ℕ) → k < 4 → largest (exponent 4 k) (polyOf base (c .before .before .before .before .before .before .before .before .before .before .args .f .now)) + largest (exponent 4 k) (polyOf base (c .before .before .before .before .before .before .before .before .before .before .args .g .now)) ≤ 32767
-small-4 c = below-more _ 3 (small-3 (c .before)) (omega (arith, first-of (c .before .before .before .before) 3 (lit< tt), second-of (c .before .before .before .before) 3 (lit< tt), c .if4 .left))
-
-returns : tie.Need-returns
-returns c = sym (burst-found (polyOf base (c .before .before .before .before .before .before .before .args .f .now)) (polyOf base (c .before .before .before .before .before .before .before .args .g .now)) 0 (lit< tt) (below-none _) (omega (arith, first-of (c .before) 0 (lit< tt), second-of (c .before) 0 (lit< tt), c .if1 .taken)))
-
-array-read-if2 : tie.Need-array-read-if2
-array-read-if2 c = search needs
-
-array-read-if2-2 : tie.Need-array-read-if2-2
-array-read-if2-2 c = search needs
-
-add-if2 : tie.Need-add-if2
-add-if2 c = omega (arith, first-of (c .before) 1 (lit< tt), second-of (c .before) 1 (lit< tt), c .before .before .before .before .before .before .before .pre .0 1, c .before .before .before .before .before .before .before .pre .1 1)
-
-returns-2 : tie.Need-returns-2
-returns-2 c = sym (burst-found (polyOf base (c .before .before .before .before .before .before .before .before .args .f .now)) (polyOf base (c .before .before .before .before .before .before .before .before .args .g .now)) 1 (lit< tt) (small-1 (c .before)) (omega (arith, first-of (c .before .before) 1 (lit< tt), second-of (c .before .before) 1 (lit< tt), c .if2 .taken)))
-
-array-read-if3 : tie.Need-array-read-if3
-array-read-if3 c = search needs
-
-array-read-if3-2 : tie.Need-array-read-if3-2
-array-read-if3-2 c = search needs
-
-add-if3 : tie.Need-add-if3
-add-if3 c = omega (arith, first-of (c .before .before) 2 (lit< tt), second-of (c .before .before) 2 (lit< tt), c .before .before .before .before .before .before .before .before .pre .0 2, c .before .before .before .before .before .before .before .before .pre .1 2)
-
-returns-3 : tie.Need-returns-3
-returns-3 c = sym (burst-found (polyOf base (c .before .before .before .before .before .before .before .before .before .args .f .now)) (polyOf base (c .before .before .before .before .before .before .before .before .before .args .g .now)) 2 (lit< tt) (small-2 (c .before)) (omega (arith, first-of (c .before .before .before) 2 (lit< tt), second-of (c .before .before .before) 2 (lit< tt), c .if3 .taken)))
-
-array-read-if4 : tie.Need-array-read-if4
-array-read-if4 c = search needs
-
-array-read-if4-2 : tie.Need-array-read-if4-2
-array-read-if4-2 c = search needs
-
-add-if4 : tie.Need-add-if4
-add-if4 c = omega (arith, first-of (c .before .before .before) 3 (lit< tt), second-of (c .before .before .before) 3 (lit< tt), c .before .before .before .before .before .before .before .before .before .pre .0 3, c .before .before .before .before .before .before .before .before .before .pre .1 3)
-
-returns-4 : tie.Need-returns-4
-returns-4 c = sym (burst-found (polyOf base (c .before .before .before .before .before .before .before .before .before .before .args .f .now)) (polyOf base (c .before .before .before .before .before .before .before .before .before .before .args .g .now)) 3 (lit< tt) (small-3 (c .before)) (omega (arith, first-of (c .before .before .before .before) 3 (lit< tt), second-of (c .before .before .before .before) 3 (lit< tt), c .if4 .taken)))
-
-returns-5 : tie.Need-returns-5
-returns-5 c = sym (burst-none (polyOf base (c .before .before .before .before .before .before .before .before .before .before .args .f .now)) (polyOf base (c .before .before .before .before .before .before .before .before .before .before .args .g .now)) (small-4 c))
+returns-2 : tie.Need-returns-2 Inv-loop μ-loop
+returns-2 c =
+    let m = c .before in
+    let last : 4 ≡ m .loop .v = omega (arith, c .loop-test .left, m .loop .inv .0) in
+    sym last ∙ ap (λ x. first (tried m) x (4 - x)) last ∙ m .loop .inv .1
 
 pub burst-at-spec : {M : Type 1} → statement M
 burst-at-spec =
     tie.close
     (tie.spec
+    Inv-loop
+    μ-loop
     measure-requires
     measure-requires-2
+    loop-holds
+    mul-if1
     array-read-if1
+    mul-if1-2
     array-read-if1-2
     add-if1
     returns
-    array-read-if2
-    array-read-if2-2
-    add-if2
-    returns-2
-    array-read-if3
-    array-read-if3-2
-    add-if3
-    returns-3
-    array-read-if4
-    array-read-if4-2
-    add-if4
-    returns-4
-    returns-5)
+    add-v
+    loop-less
+    loop-again
+    returns-2)

@@ -1,13 +1,19 @@
 -- `product::product` meets its contract: refused, or multiplied with the shorter factor first.
-use Prim.Native.Nat.{_*_, _≤_}
-use mathlib.Core.Path.{_∙_, ap}
+use Prim.Native.Nat.{_*_, _≤_, min}
+use mathlib.Core.Path.{_≡_, _∙_, ap}
+use mathlib.Core.List.{[], _∷_}
+use native.Mathlib.Nat.{min-eq-left, min-eq-right}
 use native.Mathlib.Omega.{arith}
 use lib.ListN.{length}
-use Rattle.poly.specs.Words.{records}
-use Rattle.refusals.proofs.Reports.{chain}
-use Rattle.calls.proofs.Refusals.{inputs-good}
-use Rattle.product.proofs.Products.{product-refused, product-goes-on, work-suffices, factors-exchanged}
 use borrow.Author.Needs.{needs}
+use Rattle.poly.specs.Words.{records}
+use Rattle.refusals.specs.Reports.{none, orElse, firstOr}
+use Rattle.refusals.specs.Rules.{lent, roomTerms, workRule}
+use Rattle.refusals.specs.Dues.{withRoom}
+use Rattle.refusals.specs.declared.due.Due.{Due}
+use Rattle.calls.specs.Inputs.{twoInputs}
+use Rattle.calls.proofs.Refusals.{asked, Good, rules-good}
+use Rattle.product.proofs.Products.{factors-exchanged, product-refused, product-goes-on, work-suffices}
 use Rattle.product.proofs.product.Statement.{statement}
 use Rattle.product.proofs.product.Tie as tie
 
@@ -29,6 +35,42 @@ or-else-requires c κs = search needs
 two-inputs-requires : tie.Need-two-inputs-requires
 two-inputs-requires c κs = search needs
 
+room-requires : tie.Need-room-requires
+room-requires c κs = search needs
+
+first-requires : tie.Need-first-requires
+first-requires c κs = search needs
+
+-- the places of 8, of the least work, and of the arguments
+abbrev last : tie.After-first → tie.After-or-else
+last c = c .before .before .before .before
+
+abbrev least : tie.After-first → tie.After-smaller
+least c = last c .before .before .before .before
+
+abbrev start : tie.After-first → tie.Start
+start c = least c .before .before .before .before .before
+
+-- what was asked of the slices, and after them
+due : (c : tie.After-first) → let s = start c .args in
+    c .first .result ≡ firstOr (twoInputs (s .p) (s .a .now) (s .b .now) (s .room .now)) (last c .or-else .result)
+due c =
+    let s = start c .args in
+    let room = c .before in
+    let slice = lent 3 (s .room .now) roomTerms in
+    asked (s .p) (s .a .now) (s .b .now) (slice ∷ []) _ _ _
+    (room .room .ensures ∙ ap (λ (d : Due). withRoom d slice) (room .before .before .two-inputs .ensures))
+    (c .first .ensures)
+
+words : (c : tie.After-first) → let s = start c .args in 4 * least c .smaller .result ≡ 4 * min (records (s .a .now)) (records (s .b .now))
+words c = ap (λ n. 4 * n) (least c .smaller .ensures)
+
+work : (c : tie.After-first) → let s = start c .args in
+    last c .or-else .result ≡ orElse (workRule (4 * least c .smaller .result) (s .work .now)) none
+work c =
+    let l = last c in
+    l .or-else .ensures ∙ (λ d. orElse (l .before .before .work-rule .ensures d) (l .before .done .ensures d))
+
 same-length : tie.Need-same-length
 same-length c = search needs
 
@@ -37,26 +79,34 @@ same-length-2 c = search needs
 
 returns : tie.Need-returns
 returns c =
-    let s = c .before .before .before .before .before .before .before .before .before .before .before .before .before .args in
-    product-refused _ (s .a .now) (s .b .now) (s .room .now) (s .work .now) _ _ _ (ap (λ x. 4 * x) (c .before .before .before .before .before .before .before .before .smaller .ensures)) (c .before .before .two-inputs .ensures) (chain (c .before .before .before .before .or-else .ensures) (c .before .before .before .before .before .before .work-rule .ensures) (c .before .before .before .before .before .done .ensures)) (c .if1 .taken)
+    let f = c .before .before in
+    let s = start f .args in
+    product-refused _ (s .a .now) (s .b .now) (s .room .now) (s .work .now) _ _ _ (words f) (due f) (work f) (c .if1 .taken)
+
+-- the factors are good, and the work is long enough for the shorter one
+good : (c : tie.Else1) → let s = start (c .before .before) .args in
+    Good (s .p) (s .a .now) (s .b .now) × (4 * min (records (s .a .now)) (records (s .b .now)) ≤ length (s .work .now))
+good c =
+    let f = c .before .before in
+    let s = start f .args in
+    let g = rules-good (s .p) (s .a .now) (s .b .now) (lent 3 (s .room .now) roomTerms ∷ []) _ (last f .or-else .result) (due f) (c .if1 .left) in
+    (g .0, work-suffices _ (s .a .now) (s .b .now) (s .room .now) (s .work .now) _ _ _ (words f) (due f) (work f) (g .2))
 
 multiply-requires : tie.Need-multiply-requires
 multiply-requires c κs =
-    let s = c .before .before .before .before .before .before .before .before .before .before .before .before .before .before .before .before .args in
-    let g = inputs-good _ (s .a .now) (s .b .now) (s .room .now) _ _ (c .before .before .before .before .before .two-inputs .ensures) (c .before .before .before .if1 .left) in
-    let least = work-suffices _ (s .a .now) (s .b .now) (s .room .now) (s .work .now) _ _ _ (ap (λ x. 4 * x) (c .before .before .before .before .before .before .before .before .before .before .before .smaller .ensures)) (c .before .before .before .before .before .two-inputs .ensures) (chain (c .before .before .before .before .before .before .before .or-else .ensures) (c .before .before .before .before .before .before .before .before .before .work-rule .ensures) (c .before .before .before .before .before .before .before .before .done .ensures)) (c .before .before .before .if1 .left) in
-    let shorter : records (s .a .now) ≤ records (s .b .now) = omega arith in
-    let room : 4 * records (s .a .now) ≤ length (s .work .now) = omega (arith, least) in
-    ((g .positive, g .within, shorter, g .second-short, room), (g .first, g .second))
+    let t = c .before .before in
+    let g = good (t .before) in
+    let s = start (t .before .before .before) .args in
+    let shorter : records (s .a .now) ≤ records (s .b .now) = omega (arith, t .if2 .taken) in
+    ((g .0 .positive, g .0 .within, shorter, g .0 .second-short), (omega (arith, g .1, min-eq-left shorter), g .0 .first, g .0 .second))
 
 multiply-requires-2 : tie.Need-multiply-requires-2
 multiply-requires-2 c κs =
-    let s = c .before .before .before .before .before .before .before .before .before .before .before .before .before .before .before .before .args in
-    let g = inputs-good _ (s .a .now) (s .b .now) (s .room .now) _ _ (c .before .before .before .before .before .two-inputs .ensures) (c .before .before .before .if1 .left) in
-    let least = work-suffices _ (s .a .now) (s .b .now) (s .room .now) (s .work .now) _ _ _ (ap (λ x. 4 * x) (c .before .before .before .before .before .before .before .before .before .before .before .smaller .ensures)) (c .before .before .before .before .before .two-inputs .ensures) (chain (c .before .before .before .before .before .before .before .or-else .ensures) (c .before .before .before .before .before .before .before .before .before .work-rule .ensures) (c .before .before .before .before .before .before .before .before .done .ensures)) (c .before .before .before .if1 .left) in
-    let shorter : records (s .b .now) ≤ records (s .a .now) = omega arith in
-    let room : 4 * records (s .b .now) ≤ length (s .work .now) = omega (arith, least) in
-    ((g .positive, g .within, shorter, g .first-short, room), (g .second, g .first))
+    let t = c .before .before in
+    let g = good (t .before) in
+    let s = start (t .before .before .before) .args in
+    let shorter : records (s .b .now) ≤ records (s .a .now) = omega (arith, t .if2 .left) in
+    ((g .0 .positive, g .0 .within, shorter, g .0 .first-short), (omega (arith, g .1, min-eq-right shorter), g .0 .second, g .0 .first))
 
 same-length-3 : tie.Need-same-length-3
 same-length-3 c = search needs
@@ -66,8 +116,11 @@ same-length-4 c = search needs
 
 returns-2 : tie.Need-returns-2
 returns-2 c =
-    let s = c .before .before .before .before .before .before .before .before .before .before .before .before .before .before .before .before .before .before .before .before .before .args in
-    product-goes-on _ (s .a .now) (s .b .now) (s .room .now) (s .work .now) _ _ _ (ap (λ x. 4 * x) (c .before .before .before .before .before .before .before .before .before .before .before .before .before .before .before .before .smaller .ensures)) (c .before .before .before .before .before .before .before .before .before .before .two-inputs .ensures) (chain (c .before .before .before .before .before .before .before .before .before .before .before .before .or-else .ensures) (c .before .before .before .before .before .before .before .before .before .before .before .before .before .before .work-rule .ensures) (c .before .before .before .before .before .before .before .before .before .before .before .before .before .done .ensures)) _ (c .before .before .before .before .before .before .before .before .if1 .left) (c .before .before .before .before .multiply .ensures)
+    let m = c .before .before .before .before in
+    let e = m .before .before .before .before in
+    let f = e .before .before in
+    let s = start f .args in
+    product-goes-on _ (s .a .now) (s .b .now) (s .room .now) (s .work .now) _ _ _ (words f) (due f) (work f) _ (e .if1 .left) (m .multiply .ensures)
 
 same-length-5 : tie.Need-same-length-5
 same-length-5 c = search needs
@@ -77,10 +130,12 @@ same-length-6 c = search needs
 
 returns-3 : tie.Need-returns-3
 returns-3 c =
-    let s = c .before .before .before .before .before .before .before .before .before .before .before .before .before .before .before .before .before .before .before .before .before .args in
-    let g = inputs-good _ (s .a .now) (s .b .now) (s .room .now) _ _ (c .before .before .before .before .before .before .before .before .before .before .two-inputs .ensures) (c .before .before .before .before .before .before .before .before .if1 .left) in
-    product-goes-on _ (s .a .now) (s .b .now) (s .room .now) (s .work .now) _ _ _ (ap (λ x. 4 * x) (c .before .before .before .before .before .before .before .before .before .before .before .before .before .before .before .before .smaller .ensures)) (c .before .before .before .before .before .before .before .before .before .before .two-inputs .ensures) (chain (c .before .before .before .before .before .before .before .before .before .before .before .before .or-else .ensures) (c .before .before .before .before .before .before .before .before .before .before .before .before .before .before .work-rule .ensures) (c .before .before .before .before .before .before .before .before .before .before .before .before .before .done .ensures)) _ (c .before .before .before .before .before .before .before .before .if1 .left)
-    (c .before .before .before .before .multiply2 .ensures ∙ factors-exchanged _ (g .positive) (s .b .now) (s .a .now) (s .room .now) (s .work .now))
+    let m = c .before .before .before .before in
+    let e = m .before .before .before .before in
+    let f = e .before .before in
+    let s = start f .args in
+    product-goes-on _ (s .a .now) (s .b .now) (s .room .now) (s .work .now) _ _ _ (words f) (due f) (work f) _ (e .if1 .left)
+    (m .multiply2 .ensures ∙ factors-exchanged _ (good e .0 .positive) (s .b .now) (s .a .now) (s .room .now) (s .work .now))
 
 pub product-spec : {M : Type 1} → statement M
 product-spec =
@@ -92,6 +147,8 @@ product-spec =
     done-requires
     or-else-requires
     two-inputs-requires
+    room-requires
+    first-requires
     same-length
     same-length-2
     returns

@@ -1,50 +1,18 @@
--- `sums::difference` meets its contract: refused, or merged.
+-- `sums::difference` meets its contract.
 use borrow.Author.Needs.{needs}
-use mathlib.Core.Bool.{true}
 use Rattle.sums.specs.Sums.{differenceOf}
-use Rattle.calls.proofs.Refusals.{inputs-good}
-use Rattle.sums.proofs.Merging.{call-refused, call-merged}
 use Rattle.sums.proofs.difference.Statement.{statement}
 use Rattle.sums.proofs.difference.Tie as tie
 
-done-requires : tie.Need-done-requires
-done-requires c κs = search needs
-
-two-inputs-requires : tie.Need-two-inputs-requires
-two-inputs-requires c κs = search needs
+combine-requires : tie.Need-combine-requires
+combine-requires c κs = search needs
 
 same-length : tie.Need-same-length
 same-length c = search needs
 
 returns : tie.Need-returns
 unfolding differenceOf
-returns c =
-    let s = c .before .before .before .before .before .before .before .before .args in
-    call-refused _ true (s .a .now) (s .b .now) (s .room .now) _ _ (c .before .before .two-inputs .ensures) (c .before .before .before .done .ensures) (c .if1 .taken)
-
-merge-requires : tie.Need-merge-requires
-merge-requires c κs =
-    let s = c .before .before .before .before .before .before .before .before .before .args in
-    let g = inputs-good _ (s .a .now) (s .b .now) (s .room .now) _ _ (c .before .before .before .two-inputs .ensures) (c .before .if1 .left) in
-    ((g .positive, g .within, g .even), (g .first, g .second))
-
-same-length-2 : tie.Need-same-length-2
-same-length-2 c = search needs
-
-returns-2 : tie.Need-returns-2
-unfolding differenceOf
-returns-2 c =
-    let s = c .before .before .before .before .before .before .before .before .before .before .before .before .args in
-    call-merged _ true (s .a .now) (s .b .now) (s .room .now) _ _ (c .before .before .before .before .before .before .two-inputs .ensures) (c .before .before .before .before .before .before .before .done .ensures) (c .before .before .before .before .if1 .left) _ (c .before .before .merge .ensures)
+returns c = search needs
 
 pub difference-spec : {M : Type 1} → statement M
-difference-spec =
-    tie.close
-    (tie.spec
-    done-requires
-    two-inputs-requires
-    same-length
-    returns
-    merge-requires
-    same-length-2
-    returns-2)
+difference-spec = tie.close (tie.spec combine-requires same-length returns)

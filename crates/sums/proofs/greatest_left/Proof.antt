@@ -1,194 +1,91 @@
--- `sums::greatest_left` meets its contract: what is greatest stands in the first input, in the second, or in both.
-use borrow.Author.Needs.{needs}
+-- `sums::greatest_left` meets its contract: it takes the heads of both inputs at the greater of their keys.
+use Prim.Native.Nat.{_<_, max}
+use mathlib.Core.Path.{_≡_, _∙_, subst, sym}
+use native.Mathlib.Nat.{le-max-left, le-max-right}
 use native.Mathlib.Omega.{arith}
-use Rattle.sums.proofs.Merging.{signed-small, greatest-first, greatest-second, greatest-both}
+use borrow.Author.Needs.{needs}
+use Rattle.poly.specs.Keys.{keyAt}
+use Rattle.poly.proofs.Maxima.{words-small}
+use Rattle.poly.proofs.Heads.{HeadTaken, head-taken}
+use Rattle.sums.proofs.Merging.{some-key, signed-small, greatest-left}
 use Rattle.sums.proofs.greatest_left.Statement.{statement}
 use Rattle.sums.proofs.greatest_left.Tie as tie
 
-mul-t12 : tie.Need-mul-t12
-mul-t12 c = search needs
+key-at-requires : tie.Need-key-at-requires
+key-at-requires c κs = let s = c .before .before in words-small _ _ (s .pre .1 .0) _
 
-mul-t13 : tie.Need-mul-t13
-mul-t13 c = search needs
+key-at-requires-2 : tie.Need-key-at-requires-2
+key-at-requires-2 c κs = let s = c .before .before .before in words-small _ _ (s .pre .1 .1) _
 
-shared-slice-read-t15 : tie.Need-shared-slice-read-t15
-shared-slice-read-t15 c = search needs
+greater-requires : tie.Need-greater-requires
+greater-requires c κs = search needs
 
-mul-t16 : tie.Need-mul-t16
-mul-t16 c = search needs
+abbrev start : tie.After-greater → tie.Start
+start c = c .before .before .before .before .before
 
-add-t17 : tie.Need-add-t17
-add-t17 c = search needs
+-- the key is the greater of both, and there is one
+top : (c : tie.After-greater) → let s = start c .args in c .greater .result ≡ max (keyAt (s .a .now) (s .i)) (keyAt (s .b .now) (s .j))
+top c = c .greater .ensures ∙ (λ d. max (c .before .before .key-at .ensures d) (c .before .key-at2 .ensures d))
 
-mul-t18 : tie.Need-mul-t18
-mul-t18 c = search needs
+some : (c : tie.After-greater) → 0 < c .greater .result
+some c = let s = start c .args in subst (λ k. 0 < k) (sym (top c)) (some-key (s .a .now) (s .b .now) (s .i) (s .j) (start c .pre .0 .4))
 
-shared-slice-read-t20 : tie.Need-shared-slice-read-t20
-shared-slice-read-t20 c = search needs
+head-at-requires : tie.Need-head-at-requires
+head-at-requires c κs = (some c, words-small _ _ (start c .pre .1 .0) _)
 
-add-t21 : tie.Need-add-t21
-add-t21 c = search needs
+head-at-requires-2 : tie.Need-head-at-requires-2
+head-at-requires-2 c κs = (some (c .before), words-small _ _ (start (c .before) .pre .1 .1) _)
 
-returns : tie.Need-returns
-returns c =
-    greatest-first _ _ _ _ _ _ (c .before .before .before .before .before .pre .0 .0) (c .before .before .before .before .before .pre .1 .0) (c .before .before .before .before .before .pre .1 .1) (omega arith) (omega arith) (λ h. absurd (omega arith))
+first-head : (c : tie.After-head-at) → let s = start (c .before) .args in HeadTaken (s .a .now) (s .i) (c .before .greater .result) (c .head-at .result)
+first-head c =
+    let s = start (c .before) in
+    let a = s .args in
+    head-taken (a .a .now) (s .pre .1 .0 .falls) (a .i) _ (some (c .before)) (s .pre .0 .2)
+    (omega (arith, top (c .before), le-max-left (keyAt (a .a .now) (a .i)) (keyAt (a .b .now) (a .j)))) _ (c .head-at .ensures)
 
-mul-word : tie.Need-mul-word
-mul-word c = search needs
+second-head : (c : tie.After-head-at2) → let s = start (c .before .before) .args in HeadTaken (s .b .now) (s .j) (c .before .before .greater .result) (c .head-at2 .result)
+second-head c =
+    let g = c .before .before in
+    let s = start g in
+    let a = s .args in
+    head-taken (a .b .now) (s .pre .1 .1 .falls) (a .j) _ (some g) (s .pre .0 .3)
+    (omega (arith, top g, le-max-right (keyAt (a .a .now) (a .i)) (keyAt (a .b .now) (a .j)))) _ (c .head-at2 .ensures)
 
-mul-word-2 : tie.Need-mul-word-2
-mul-word-2 c = search needs
-
-shared-slice-read-word : tie.Need-shared-slice-read-word
-shared-slice-read-word c = search needs
-
-mul-signed-number : tie.Need-mul-signed-number
-mul-signed-number c = search needs
-
-add-signed-number : tie.Need-add-signed-number
-add-signed-number c = search needs
-
-mul-signed-number-2 : tie.Need-mul-signed-number-2
-mul-signed-number-2 c = search needs
-
-shared-slice-read-signed-number : tie.Need-shared-slice-read-signed-number
-shared-slice-read-signed-number c = search needs
-
-signed-number-requires : tie.Need-signed-number-requires
-signed-number-requires c κs = c .before .before .before .before .before .pre .1 .1 .numbers (c .before .before .before .before .before .args .j) (omega arith) .1
-
-add-t26 : tie.Need-add-t26
-add-t26 c = search needs
-
-returns-2 : tie.Need-returns-2
-returns-2 c =
-    greatest-second _ _ _ _ _ _ (c .before .before .before .before .before .before .before .pre .0 .0) (c .before .before .before .before .before .before .before .pre .1 .0) (c .before .before .before .before .before .before .before .pre .1 .1) _ (c .before .signed-number .ensures) (omega arith) (omega arith) (λ h. absurd (omega arith))
-
-mul-if3 : tie.Need-mul-if3
-mul-if3 c = search needs
-
-mul-if3-2 : tie.Need-mul-if3-2
-mul-if3-2 c = search needs
-
-shared-slice-read-if3 : tie.Need-shared-slice-read-if3
-shared-slice-read-if3 c = search needs
-
-add-t28 : tie.Need-add-t28
-add-t28 c = search needs
-
-returns-3 : tie.Need-returns-3
-returns-3 c =
-    greatest-second _ _ _ _ _ _ (c .before .before .before .before .before .before .before .before .before .pre .0 .0) (c .before .before .before .before .before .before .before .before .before .pre .1 .0) (c .before .before .before .before .before .before .before .before .before .pre .1 .1) _ (c .before .before .before .signed-number .ensures) (omega arith) (omega arith) (λ h. c .if3 .taken)
-
-mul-if4 : tie.Need-mul-if4
-mul-if4 c = search needs
-
-mul-if4-2 : tie.Need-mul-if4-2
-mul-if4-2 c = search needs
-
-shared-slice-read-if4 : tie.Need-shared-slice-read-if4
-shared-slice-read-if4 c = search needs
-
-mul-t30 : tie.Need-mul-t30
-mul-t30 c = search needs
-
-mul-t31 : tie.Need-mul-t31
-mul-t31 c = search needs
-
-shared-slice-read-t33 : tie.Need-shared-slice-read-t33
-shared-slice-read-t33 c = search needs
-
-mul-t34 : tie.Need-mul-t34
-mul-t34 c = search needs
-
-add-t35 : tie.Need-add-t35
-add-t35 c = search needs
-
-mul-t36 : tie.Need-mul-t36
-mul-t36 c = search needs
-
-shared-slice-read-t38 : tie.Need-shared-slice-read-t38
-shared-slice-read-t38 c = search needs
-
-add-t39 : tie.Need-add-t39
-add-t39 c = search needs
-
-returns-4 : tie.Need-returns-4
-returns-4 c =
-    greatest-first _ _ _ _ _ _ (c .before .before .before .before .before .before .before .before .before .before .before .before .before .pre .0 .0) (c .before .before .before .before .before .before .before .before .before .before .before .before .before .pre .1 .0) (c .before .before .before .before .before .before .before .before .before .before .before .before .before .pre .1 .1) (omega arith) (omega arith) (λ h. c .before .before .if4 .taken)
-
-mul-add-mod : tie.Need-mul-add-mod
-mul-add-mod c = search needs
-
-add-add-mod : tie.Need-add-add-mod
-add-add-mod c = search needs
-
-mul-add-mod-2 : tie.Need-mul-add-mod-2
-mul-add-mod-2 c = search needs
-
-shared-slice-read-add-mod : tie.Need-shared-slice-read-add-mod
-shared-slice-read-add-mod c = search needs
+signed-coef-requires : tie.Need-signed-coef-requires
+signed-coef-requires c κs =
+    let s = start (c .before .before) in
+    second-head c .coefs _ (s .pre .0 .0) (λ n h. s .pre .1 .1 .coefs n h .1)
 
 add-mod-requires : tie.Need-add-mod-requires
 add-mod-requires c κs =
-    let v = c .before .before .before .before .before .before .before .before .before .before .before .before .pre .1 in
-    (c .before .before .before .before .before .before .before .before .before .before .before .before .pre .0 .1, v .0 .numbers (c .before .before .before .before .before .before .before .before .before .before .before .before .args .i) (omega arith) .1, omega (arith, signed-small (c .before .before .before .before .before .before .before .before .before .before .before .before .args .p) (c .before .before .before .before .before .before .before .before .before .before .before .before .args .minus) _ (v .1 .numbers (c .before .before .before .before .before .before .before .before .before .before .before .before .args .j) (omega arith) .1), c .before .before .before .before .before .before .signed-number .ensures))
+    let heads = c .before in
+    let s = start (heads .before .before) in (
+      s .pre .0 .1,
+      first-head (heads .before) .coefs _ (s .pre .0 .0) (λ n h. s .pre .1 .0 .coefs n h .1),
+      subst (λ n. n < s .args .p) (sym (c .signed-coef .ensures)) (signed-small _ (s .args .minus) _ (signed-coef-requires heads κs)),
+    )
 
-add-t42 : tie.Need-add-t42
-add-t42 c = search needs
+sub-t12 : tie.Need-sub-t12
+sub-t12 c = omega (arith, some (c .before .before .before .before))
 
-add-t43 : tie.Need-add-t43
-add-t43 c = search needs
-
-returns-5 : tie.Need-returns-5
-returns-5 c =
-    greatest-both _ _ _ _ _ _ (c .before .before .before .before .before .before .before .before .before .before .before .before .before .pre .0 .0) (c .before .before .before .before .before .before .before .before .before .before .before .before .before .pre .1 .0) (c .before .before .before .before .before .before .before .before .before .before .before .before .before .pre .1 .1) _ _ (c .before .before .before .before .before .before .before .signed-number .ensures) (c .add-mod .ensures) (omega arith) (omega arith) (omega arith)
+returns : tie.Need-returns
+returns c =
+    let heads = c .before .before in
+    let g = heads .before .before in
+    let s = start g in
+    greatest-left _ _ (s .args .a .now) (s .args .b .now) _ _ _ (s .pre .0 .0) (s .pre .1 .0) (s .pre .1 .1) (top g) (some g) _ _
+    (first-head (heads .before)) (second-head heads) _ _ (c .before .signed-coef .ensures) (c .add-mod .ensures)
 
 pub greatest-left-spec : {M : Type 1} → statement M
 greatest-left-spec =
     tie.close
     (tie.spec
-    mul-t12
-    mul-t13
-    shared-slice-read-t15
-    mul-t16
-    add-t17
-    mul-t18
-    shared-slice-read-t20
-    add-t21
-    returns
-    mul-word
-    mul-word-2
-    shared-slice-read-word
-    mul-signed-number
-    add-signed-number
-    mul-signed-number-2
-    shared-slice-read-signed-number
-    signed-number-requires
-    add-t26
-    returns-2
-    mul-if3
-    mul-if3-2
-    shared-slice-read-if3
-    add-t28
-    returns-3
-    mul-if4
-    mul-if4-2
-    shared-slice-read-if4
-    mul-t30
-    mul-t31
-    shared-slice-read-t33
-    mul-t34
-    add-t35
-    mul-t36
-    shared-slice-read-t38
-    add-t39
-    returns-4
-    mul-add-mod
-    add-add-mod
-    mul-add-mod-2
-    shared-slice-read-add-mod
+    key-at-requires
+    key-at-requires-2
+    greater-requires
+    head-at-requires
+    head-at-requires-2
+    signed-coef-requires
     add-mod-requires
-    add-t42
-    add-t43
-    returns-5)
+    sub-t12
+    returns)

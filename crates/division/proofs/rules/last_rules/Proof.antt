@@ -23,7 +23,10 @@ or-else-requires-2 : tie.Need-or-else-requires-2
 or-else-requires-2 c κs = search needs
 
 returns : tie.Need-returns
-returns c = chain (c .or-else2 .ensures) (c .before .divisor-rule .ensures) (chain (c .before .before .or-else .ensures) (c .before .before .before .before .work-rule .ensures) (c .before .before .before .done .ensures))
+returns c =
+    let eight = c .before .before in
+    let passed = eight .before in
+    chain (c .or-else2 .ensures) (c .before .divisor-rule .ensures) (chain (eight .or-else .ensures) (passed .before .work-rule .ensures) (passed .done .ensures))
 
 pub last-rules-spec : {M : Type 1} → statement M
 last-rules-spec =

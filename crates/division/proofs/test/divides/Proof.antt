@@ -1,11 +1,44 @@
 -- `division::test::divides` meets its contract.
-use Rattle.division.proofs.Accepted.{test-told, test-goes-on, test-good}
+use mathlib.Core.Path.{_≡_, _∙_, ap}
+use mathlib.Core.List.{[], _∷_}
 use borrow.Author.Needs.{needs}
+use Rattle.refusals.specs.Reports.{none, firstOr}
+use Rattle.refusals.specs.Rules.{lent, inputTerms}
+use Rattle.refusals.specs.Dues.{withRoom}
+use Rattle.refusals.specs.declared.due.Due.{Due}
+use Rattle.calls.proofs.Refusals.{refused-tells, passed-goes-on}
+use Rattle.division.specs.Division.{testRules, tested, testOf}
+use Rattle.division.proofs.Accepted.{rules-walkable, all-asked}
 use Rattle.division.proofs.test.divides.Statement.{statement}
 use Rattle.division.proofs.test.divides.Tie as tie
 
-test-rules-requires : tie.Need-test-rules-requires
-test-rules-requires c κs = search needs
+abbrev start : tie.After-first → tie.Start
+start c = c .before .before .before .before .before .before .before .before .before .before .before
+
+two-inputs-requires : tie.Need-two-inputs-requires
+two-inputs-requires c κs = search needs
+
+room-requires : tie.Need-room-requires
+room-requires c κs = search needs
+
+last-rules-requires : tie.Need-last-rules-requires
+last-rules-requires c κs = search needs
+
+first-requires : tie.Need-first-requires
+first-requires c κs = search needs
+
+-- what was asked is the first of the rules 1 to 8
+told : (c : tie.After-first) →
+    let a = start c .args in c .first .result ≡ firstOr (testRules (a .p) (a .f .now) (a .g .now) (a .q .now) (a .work .now)) none
+told c =
+    let a = start c .args in
+    let last = c .before in
+    let room = last .before .before .before in
+    let quotient : Due → Due = λ d. withRoom d (lent 3 (a .q .now) inputTerms) in
+    all-asked (a .p) (a .f .now) (a .g .now) (a .q .now) (a .work .now) (lent 3 (a .q .now) inputTerms ∷ [])
+    (room .room .ensures ∙ ap quotient (room .before .before .two-inputs .ensures))
+    (last .last-rules .ensures)
+    (c .first .ensures)
 
 same-length : tie.Need-same-length
 same-length c = search needs
@@ -14,15 +47,22 @@ same-length-2 : tie.Need-same-length-2
 same-length-2 c = search needs
 
 returns : tie.Need-returns
+unfolding testOf
 returns c =
-    let a = c .before .before .before .before .before .before .before .before .before .args in
-    test-told _ (a .f .now) (a .g .now) (a .q .now) (a .work .now) _ (c .before .before .test-rules .ensures) (c .if1 .taken)
+    let due = c .before .before in
+    let a = start due .args in
+    refused-tells (testRules (a .p) (a .f .now) (a .g .now) (a .q .now) (a .work .now)) (due .first .result) (told due) (a .q .now) [] (a .work .now)
+    (tested (a .p) (a .f .now) (a .g .now) (a .q .now) (a .work .now))
+    (c .if1 .taken)
 
 test-good-requires : tie.Need-test-good-requires
 test-good-requires c κs =
-    let a = c .before .before .before .before .before .before .before .before .before .before .before .args in
-    let d = test-good _ (a .f .now) (a .g .now) (a .q .now) (a .work .now) _ (c .before .before .before .before .test-rules .ensures) (c .before .before .if1 .left) in
-    ((d .prime, d .within, d .some, d .divisor-short, d .room-short, d .long), (d .dividend, d .divisor))
+    let passed = c .before .before in
+    let due = passed .before .before in
+    let a = start due .args in
+    let W = rules-walkable (a .p) (a .f .now) (a .g .now) (a .q .now) (a .work .now) [] (told due) (passed .if1 .left) .0 in
+    let G = W .good in
+    ((G .prime, G .within, G .first, G .second, W .some, G .second-short), (W .room-short, W .long))
 
 same-length-3 : tie.Need-same-length-3
 same-length-3 c = search needs
@@ -31,15 +71,25 @@ same-length-4 : tie.Need-same-length-4
 same-length-4 c = search needs
 
 returns-2 : tie.Need-returns-2
+unfolding testOf
 returns-2 c =
-    let a = c .before .before .before .before .before .before .before .before .before .before .before .before .before .before .before .before .args in
-    test-goes-on _ (a .f .now) (a .g .now) (a .q .now) (a .work .now) _ (c .before .before .before .before .before .before .before .before .before .test-rules .ensures) (c .before .before .before .before .before .before .before .if1 .left) _ (c .before .before .before .before .test-good .ensures)
+    let done = c .before .before .before .before in
+    let passed = done .before .before .before in
+    let due = passed .before .before in
+    let a = start due .args in
+    done .test-good .ensures
+    ∙ passed-goes-on (testRules (a .p) (a .f .now) (a .g .now) (a .q .now) (a .work .now)) (due .first .result) (told due) (a .q .now) [] (a .work .now)
+    (tested (a .p) (a .f .now) (a .g .now) (a .q .now) (a .work .now))
+    (passed .if1 .left)
 
 pub divides-spec : {M : Type 1} → statement M
 divides-spec =
     tie.close
     (tie.spec
-    test-rules-requires
+    two-inputs-requires
+    room-requires
+    last-rules-requires
+    first-requires
     same-length
     same-length-2
     returns

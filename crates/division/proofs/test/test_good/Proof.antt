@@ -1,59 +1,71 @@
 -- `division::test::test_good` meets its contract.
+use mathlib.Core.Bool.{true}
 use native.Mathlib.Omega.{arith}
-use Rattle.division.proofs.Ends.{zero-long, tail-long, test-starts, test-quotient-long, test-work-long, test-within, test-refused, test-finished}
 use borrow.Author.Needs.{needs}
+use Rattle.division.proofs.WalkedRooms.{call-starts, walked-within, test-ends}
 use Rattle.division.proofs.test.test_good.Statement.{statement}
 use Rattle.division.proofs.test.test_good.Tie as tie
+
+-- Places, each by a later one: the start, the cleared quotient room, the plan, the walk, the cleared work
+
+abbrev start : tie.After-clear → tie.Start
+start c = c .before .before .before .before .before .before
+
+abbrev cleared : tie.After-prepare → tie.After-clear
+cleared c = c .before .before .before
+
+abbrev planned : tie.After-run → tie.After-prepare
+planned c = c .before .before .before .before
+
+abbrev ran : tie.After-clear2 → tie.After-run
+ran c = c .before .before .before .before .before .before .before
 
 clear-requires : tie.Need-clear-requires
 clear-requires c κs = search needs
 
 prepare-requires : tie.Need-prepare-requires
 prepare-requires c κs =
-    let s = c .before .before .before .before .before .before .before .before .pre in
-    ((s .0 .0, s .0 .1, s .0 .2, omega (arith, s .0 .3)), s .1)
+    let asked = start (c .before .before) .pre .0 in
+    ((asked .0, asked .1, asked .4, omega (arith, asked .5)), (asked .2, asked .3))
 
 slice-aggregate-run : tie.Need-slice-aggregate-run
 slice-aggregate-run c = search needs
 
 run-requires : tie.Need-run-requires
-run-requires c κs = (c .before .before .before .prepare .ensures .0, test-starts _ _ _ _ (c .before .before .before .before .before .before .before .before .before .before .before .before .args .q .now) (c .before .before .before .before .before .before .before .before .before .before .before .before .args .work .now) _ (c .before .before .before .before .before .before .clear .ensures) (c .before .before .before .prepare .ensures .2) (c .before .before .before .prepare .ensures .0) (c .before .before .before .prepare .ensures .3) (c .before .before .before .before .before .before .before .before .before .before .before .before .pre .0 .4) (c .before .before .before .before .before .before .before .before .before .before .before .before .pre .0 .5))
+run-requires c κs =
+    let plan = c .before .before .before in
+    let empty = cleared plan in
+    let s = start empty in
+    let known = plan .prepare .ensures in
+    (known .0, call-starts (known .0) (s .args .q .now) _ _ (empty .clear .ensures) (known .2) (known .3) (s .pre .1 .0) (s .pre .1 .1))
 
 clear-requires-2 : tie.Need-clear-requires-2
 clear-requires-2 c κs = search needs
 
-clear-requires-3 : tie.Need-clear-requires-3
-clear-requires-3 c κs = search needs
+leave-requires : tie.Need-leave-requires
+leave-requires c κs z = walked-within (ran (c .before .before .before) .run .ensures) z .0
 
-refusal-requires : tie.Need-refusal-requires
-refusal-requires c κs = search needs
+report-of-requires : tie.Need-report-of-requires
+report-of-requires c κs = search needs
 
 same-length : tie.Need-same-length
-same-length c = zero-long (c .before .before .before .before .before .before .before .before .before .before .before .before .before .before .before .before .before .before .before .before .before .before .before .before .before .before .before .before .before .args .q .now) (c .before .before .before .before .before .before .before .before .before .before .before .before .before .before .before .before .run .last .1 .1 .1 .0) _ (test-quotient-long _ _ _ _ (c .before .before .before .before .before .before .before .before .before .before .before .before .before .before .before .before .before .before .before .before .before .before .before .before .before .before .before .before .before .args .q .now) (c .before .before .before .before .before .before .before .before .before .before .before .before .before .before .before .before .before .before .before .before .before .before .before .before .before .before .before .before .before .args .work .now) _ (c .before .before .before .before .before .before .before .before .before .before .before .before .before .before .before .before .before .before .before .before .before .before .before .clear .ensures) (c .before .before .before .before .before .before .before .before .before .before .before .before .before .before .before .before .before .before .before .before .prepare .ensures .2) (c .before .before .before .before .before .before .before .before .before .before .before .before .before .before .before .before .before .before .before .before .prepare .ensures .1) _ _ _ _ _ (c .before .before .before .before .before .before .before .before .before .before .before .before .before .before .before .before .run .ensures)) (c .before .before .before .clear3 .ensures)
+same-length c = search needs
 
 same-length-2 : tie.Need-same-length-2
-same-length-2 c = zero-long (c .before .before .before .before .before .before .before .before .before .before .before .before .before .before .before .before .before .before .before .before .before .before .before .before .before .before .before .before .before .args .work .now) (c .before .before .before .before .before .before .before .before .before .before .before .before .before .before .before .before .run .last .1 .1 .1 .1 .1 .0) _ (test-work-long _ _ _ _ (c .before .before .before .before .before .before .before .before .before .before .before .before .before .before .before .before .before .before .before .before .before .before .before .before .before .before .before .before .before .args .q .now) (c .before .before .before .before .before .before .before .before .before .before .before .before .before .before .before .before .before .before .before .before .before .before .before .before .before .before .before .before .before .args .work .now) _ (c .before .before .before .before .before .before .before .before .before .before .before .before .before .before .before .before .before .before .before .before .before .before .before .clear .ensures) (c .before .before .before .before .before .before .before .before .before .before .before .before .before .before .before .before .before .before .before .before .prepare .ensures .2) (c .before .before .before .before .before .before .before .before .before .before .before .before .before .before .before .before .before .before .before .before .prepare .ensures .1) _ _ _ _ _ (c .before .before .before .before .before .before .before .before .before .before .before .before .before .before .before .before .run .ensures)) (c .before .before .before .before .before .before .before .before .before .clear2 .ensures)
+same-length-2 c = search needs
 
 returns : tie.Need-returns
-returns c = test-refused _ _ _ _ (c .before .before .before .before .before .before .before .before .before .before .before .before .before .before .before .before .before .before .before .before .before .before .before .before .before .before .before .before .before .args .q .now) (c .before .before .before .before .before .before .before .before .before .before .before .before .before .before .before .before .before .before .before .before .before .before .before .before .before .before .before .before .before .args .work .now) _ (c .before .before .before .before .before .before .before .before .before .before .before .before .before .before .before .before .before .before .before .before .before .before .before .clear .ensures) (c .before .before .before .before .before .before .before .before .before .before .before .before .before .before .before .before .before .before .before .before .prepare .ensures .2) (c .before .before .before .before .before .before .before .before .before .before .before .before .before .before .before .before .before .before .before .before .prepare .ensures .1) _ _ _ _ _ (c .before .before .before .before .before .before .before .before .before .before .before .before .before .before .before .before .run .ensures) _ _ _ (c .before .before .before .before .before .before .before .before .before .clear2 .ensures) (c .before .before .before .before .before .if1 .taken) (c .before .before .before .clear3 .ensures) (c .refusal .ensures)
-
-mul-clear : tie.Need-mul-clear
-mul-clear c = omega (arith, test-within _ _ _ _ (c .before .before .before .before .before .before .before .before .before .before .before .before .before .before .before .before .before .before .before .before .before .before .before .before .before .before .args .q .now) (c .before .before .before .before .before .before .before .before .before .before .before .before .before .before .before .before .before .before .before .before .before .before .before .before .before .before .args .work .now) _ (c .before .before .before .before .before .before .before .before .before .before .before .before .before .before .before .before .before .before .before .before .clear .ensures) (c .before .before .before .before .before .before .before .before .before .before .before .before .before .before .before .before .before .prepare .ensures .2) (c .before .before .before .before .before .before .before .before .before .before .before .before .before .before .before .before .before .prepare .ensures .1) _ _ _ _ _ (c .before .before .before .before .before .before .before .before .before .before .before .before .before .run .ensures) (c .before .before .if1 .left), c .before .before .before .before .before .before .before .before .before .before .before .before .before .before .before .before .before .before .before .before .before .before .before .before .before .before .pre .0 .4)
-
-clear-requires-4 : tie.Need-clear-requires-4
-clear-requires-4 c κs = search needs
-
-done-requires : tie.Need-done-requires
-done-requires c κs = search needs
-
-same-length-3 : tie.Need-same-length-3
-same-length-3 c = tail-long (c .before .before .before .before .before .before .before .before .before .before .before .before .before .before .before .before .before .before .before .before .before .before .before .before .before .before .before .before .before .before .args .q .now) _ _ (test-quotient-long _ _ _ _ (c .before .before .before .before .before .before .before .before .before .before .before .before .before .before .before .before .before .before .before .before .before .before .before .before .before .before .before .before .before .before .args .q .now) (c .before .before .before .before .before .before .before .before .before .before .before .before .before .before .before .before .before .before .before .before .before .before .before .before .before .before .before .before .before .before .args .work .now) _ (c .before .before .before .before .before .before .before .before .before .before .before .before .before .before .before .before .before .before .before .before .before .before .before .before .clear .ensures) (c .before .before .before .before .before .before .before .before .before .before .before .before .before .before .before .before .before .before .before .before .before .prepare .ensures .2) (c .before .before .before .before .before .before .before .before .before .before .before .before .before .before .before .before .before .before .before .before .before .prepare .ensures .1) _ _ _ _ _ (c .before .before .before .before .before .before .before .before .before .before .before .before .before .before .before .before .before .run .ensures)) _ (test-within _ _ _ _ (c .before .before .before .before .before .before .before .before .before .before .before .before .before .before .before .before .before .before .before .before .before .before .before .before .before .before .before .before .before .before .args .q .now) (c .before .before .before .before .before .before .before .before .before .before .before .before .before .before .before .before .before .before .before .before .before .before .before .before .before .before .before .before .before .before .args .work .now) _ (c .before .before .before .before .before .before .before .before .before .before .before .before .before .before .before .before .before .before .before .before .before .before .before .before .clear .ensures) (c .before .before .before .before .before .before .before .before .before .before .before .before .before .before .before .before .before .before .before .before .before .prepare .ensures .2) (c .before .before .before .before .before .before .before .before .before .before .before .before .before .before .before .before .before .before .before .before .before .prepare .ensures .1) _ _ _ _ _ (c .before .before .before .before .before .before .before .before .before .before .before .before .before .before .before .before .before .run .ensures) (c .before .before .before .before .before .before .if1 .left)) (c .before .before .before .clear4 .ensures)
-
-same-length-4 : tie.Need-same-length-4
-same-length-4 c = zero-long (c .before .before .before .before .before .before .before .before .before .before .before .before .before .before .before .before .before .before .before .before .before .before .before .before .before .before .before .before .before .before .args .work .now) (c .before .before .before .before .before .before .before .before .before .before .before .before .before .before .before .before .before .run .last .1 .1 .1 .1 .1 .0) _ (test-work-long _ _ _ _ (c .before .before .before .before .before .before .before .before .before .before .before .before .before .before .before .before .before .before .before .before .before .before .before .before .before .before .before .before .before .before .args .q .now) (c .before .before .before .before .before .before .before .before .before .before .before .before .before .before .before .before .before .before .before .before .before .before .before .before .before .before .before .before .before .before .args .work .now) _ (c .before .before .before .before .before .before .before .before .before .before .before .before .before .before .before .before .before .before .before .before .before .before .before .before .clear .ensures) (c .before .before .before .before .before .before .before .before .before .before .before .before .before .before .before .before .before .before .before .before .before .prepare .ensures .2) (c .before .before .before .before .before .before .before .before .before .before .before .before .before .before .before .before .before .before .before .before .before .prepare .ensures .1) _ _ _ _ _ (c .before .before .before .before .before .before .before .before .before .before .before .before .before .before .before .before .before .run .ensures)) (c .before .before .before .before .before .before .before .before .before .before .clear2 .ensures)
-
-returns-2 : tie.Need-returns-2
-returns-2 c = test-finished _ _ _ _ (c .before .before .before .before .before .before .before .before .before .before .before .before .before .before .before .before .before .before .before .before .before .before .before .before .before .before .before .before .before .before .args .q .now) (c .before .before .before .before .before .before .before .before .before .before .before .before .before .before .before .before .before .before .before .before .before .before .before .before .before .before .before .before .before .before .args .work .now) _ (c .before .before .before .before .before .before .before .before .before .before .before .before .before .before .before .before .before .before .before .before .before .before .before .before .clear .ensures) (c .before .before .before .before .before .before .before .before .before .before .before .before .before .before .before .before .before .before .before .before .before .prepare .ensures .2) (c .before .before .before .before .before .before .before .before .before .before .before .before .before .before .before .before .before .before .before .before .before .prepare .ensures .1) _ _ _ _ _ (c .before .before .before .before .before .before .before .before .before .before .before .before .before .before .before .before .before .run .ensures) _ _ _ (c .before .before .before .before .before .before .before .before .before .before .clear2 .ensures) (c .before .before .before .before .before .before .if1 .left) (c .before .before .before .clear4 .ensures) (c .done .ensures)
+returns c =
+    let left = c .before .before .before in
+    let emptied = left .before .before .before .before in
+    let walked = ran emptied in
+    let plan = planned walked in
+    let known = plan .prepare .ensures in
+    let empty = cleared plan in
+    test-ends (start empty .args .q .now) (empty .clear .ensures) (walked .run .ensures) true _ (known .1) (known .2) (known .3)
+    (emptied .clear2 .ensures)
+    (left .leave .ensures)
+    (c .report-of .ensures)
 
 pub test-good-spec : {M : Type 1} → statement M
 test-good-spec =
@@ -64,14 +76,8 @@ test-good-spec =
     slice-aggregate-run
     run-requires
     clear-requires-2
-    clear-requires-3
-    refusal-requires
+    leave-requires
+    report-of-requires
     same-length
     same-length-2
-    returns
-    mul-clear
-    clear-requires-4
-    done-requires
-    same-length-3
-    same-length-4
-    returns-2)
+    returns)

@@ -5,7 +5,7 @@ use native.Mathlib.Omega.{arith}
 use lib.Dec.{ltb}
 use borrow.Author.Needs.{needs}
 use Rattle.field.specs.Moduli.{isModulus}
-use Rattle.field.specs.Answers.{value, noValue, productOf}
+use Rattle.field.specs.Answers.{value, noValue, fieldProductOf}
 use Rattle.field.proofs.Moduli.{modulus-within}
 use Rattle.field.proofs.Operands.{pair-passed, answer-given, answer-refused}
 use Rattle.field.proofs.products.product.Statement.{statement}
@@ -21,7 +21,7 @@ refused-requires : tie.Need-refused-requires
 refused-requires c κs = search needs
 
 returns : tie.Need-returns
-unfolding productOf
+unfolding fieldProductOf
 returns c =
     let p = c .before .before .before .args .p in
     let a = c .before .before .before .args .a in
@@ -35,7 +35,7 @@ mul-mod-requires c κs =
     (omega arith, omega arith, omega arith)
 
 returns-2 : tie.Need-returns-2
-unfolding productOf
+unfolding fieldProductOf
 returns-2 c =
     let p = c .before .before .before .args .p in
     let a = c .before .before .before .args .a in

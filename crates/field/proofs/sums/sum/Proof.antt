@@ -4,7 +4,7 @@ use mathlib.Core.Bool.{true, _&&_}
 use lib.Dec.{ltb}
 use borrow.Author.Needs.{needs}
 use Rattle.field.specs.Moduli.{isModulus}
-use Rattle.field.specs.Answers.{value, noValue, sumOf}
+use Rattle.field.specs.Answers.{value, noValue, fieldSumOf}
 use Rattle.field.proofs.Moduli.{modulus-within}
 use Rattle.field.proofs.Operands.{pair-passed, answer-given, answer-refused}
 use Rattle.field.proofs.sums.sum.Statement.{statement}
@@ -20,7 +20,7 @@ refused-requires : tie.Need-refused-requires
 refused-requires c κs = search needs
 
 returns : tie.Need-returns
-unfolding sumOf
+unfolding fieldSumOf
 returns c =
     let p = c .before .before .before .args .p in
     let a = c .before .before .before .args .a in
@@ -33,7 +33,7 @@ add-mod-requires c κs =
     (modulus-within (h .0), h .1, h .2)
 
 returns-2 : tie.Need-returns-2
-unfolding sumOf
+unfolding fieldSumOf
 returns-2 c =
     let p = c .before .before .before .args .p in
     let a = c .before .before .before .args .a in

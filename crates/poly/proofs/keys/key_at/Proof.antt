@@ -22,10 +22,10 @@ add-result : tie.Need-add-result
 add-result c = omega (arith, c .before .before .pre (c .before .if1 .taken))
 
 returns : tie.Need-returns
-returns c = let a = c .before .before .args in sym (ap (λ b. pick b (wordAt (a .f .now) (a .i) + 1) 0) (lt-ltb (a .i) (records (a .f .now)) (c .before .if1 .taken)))
+returns c = let a = c .before .before .args in sym (ap (λ b. pick b (wordAt (a .s .now) (a .i) + 1) 0) (lt-ltb (a .i) (records (a .s .now)) (c .before .if1 .taken)))
 
 returns-2 : tie.Need-returns-2
-returns-2 c = let a = c .before .args in sym (ap (λ b. pick b (wordAt (a .f .now) (a .i) + 1) 0) (le-ltb (a .i) (records (a .f .now)) (c .if1 .left)))
+returns-2 c = let a = c .before .args in sym (ap (λ b. pick b (wordAt (a .s .now) (a .i) + 1) 0) (le-ltb (a .i) (records (a .s .now)) (c .if1 .left)))
 
 pub key-at-spec : {M : Type 1} → statement M
 key-at-spec =

@@ -66,25 +66,33 @@ greater-requires-3 c κs = tt
 greater-requires-4 : tie.Need-greater-requires-4 Inv-loop μ-loop
 greater-requires-4 c κs = tt
 
+-- a turn of the loop, where the four exponents were read
+abbrev turn : tie.After-exponent4 Inv-loop μ-loop → tie.In-loop Inv-loop μ-loop
+turn c = c .before .before .before .before .before
+
 -- each exponent that was read is below 2 ^ 16
-below : (c : tie.After-greater4 Inv-loop μ-loop) → (c .before .before .before .before .before .before .before .exponent .result < 2 ^ 16) × (c .before .before .before .before .before .before .exponent2 .result < 2 ^ 16) × (c .before .before .before .before .before .exponent3 .result < 2 ^ 16) × (c .before .before .before .before .exponent4 .result < 2 ^ 16)
+below : (c : tie.After-exponent4 Inv-loop μ-loop) →
+    (c .before .before .before .exponent .result < 2 ^ 16) × (c .before .before .exponent2 .result < 2 ^ 16)
+    × (c .before .exponent3 .result < 2 ^ 16) × (c .exponent4 .result < 2 ^ 16)
 below c =
-    let word = wordAt (c .before .before .before .before .before .before .before .before .before .before .before .before .args .s .now) (c .before .before .before .before .before .before .before .before .before .before .loop .i - 1) in
-    let h : word < 2 ^ 64 = omega (arith, c .before .before .before .before .before .before .before .before .shared-slice-known2 .given (2 * (c .before .before .before .before .before .before .before .before .before .before .loop .i - 1))) in (
-      rw (c .before .before .before .before .before .before .before .exponent .ensures) (field-below word 0 h (lit< tt)),
-      rw (c .before .before .before .before .before .before .exponent2 .ensures) (field-below word 1 h (lit< tt)),
-      rw (c .before .before .before .before .before .exponent3 .ensures) (field-below word 2 h (lit< tt)),
-      rw (c .before .before .before .before .exponent4 .ensures) (field-below word 3 h (lit< tt)),
+    let l = turn c .before in
+    let i = l .loop .i - 1 in
+    let word = wordAt (l .before .before .args .s .now) i in
+    let h : word < 2 ^ 64 = omega (arith, c .before .before .before .before .shared-slice-known2 .given (2 * i)) in (
+      rw (c .before .before .before .exponent .ensures) (field-below word 0 h (lit< tt)),
+      rw (c .before .before .exponent2 .ensures) (field-below word 1 h (lit< tt)),
+      rw (c .before .exponent3 .ensures) (field-below word 2 h (lit< tt)),
+      rw (c .exponent4 .ensures) (field-below word 3 h (lit< tt)),
     )
 
 add-greater : tie.Need-add-greater Inv-loop μ-loop
-add-greater c = omega (arith, below c)
+add-greater c = omega (arith, below (c .before .before .before .before))
 
 add-greater-2 : tie.Need-add-greater-2 Inv-loop μ-loop
-add-greater-2 c = omega (arith, below c)
+add-greater-2 c = omega (arith, below (c .before .before .before .before))
 
 add-greater-3 : tie.Need-add-greater-3 Inv-loop μ-loop
-add-greater-3 c = omega (arith, below c)
+add-greater-3 c = omega (arith, below (c .before .before .before .before))
 
 greater-requires-5 : tie.Need-greater-requires-5 Inv-loop μ-loop
 greater-requires-5 c κs = tt
@@ -94,16 +102,22 @@ loop-less c = omega arith
 
 loop-again : tie.Need-loop-again Inv-loop μ-loop
 loop-again c =
-    let l = c .before .before .before .before .before .before .before .before .before .before .before .loop in
-    let s = c .before .before .before .before .before .before .before .before .before .before .before .before .before .args .s .now in
+    let read = c .before .before .before .before .before in
+    let l = turn read .before .loop in
+    let s = turn read .before .before .before .args .s .now in
     let n = records s in
-    let h : 0 < l .i = c .before .before .before .before .before .before .before .before .before .before .loop-test .taken in
-    let sum : c .before .before .before .before .before .before .before .before .exponent .result + (c .before .before .before .before .before .before .before .exponent2 .result + (c .before .before .before .before .before .before .exponent3 .result + c .before .before .before .before .before .exponent4 .result)) ≡ degree 4 (exponentsOf 16 4 (wordAt s (l .i - 1))) = (λ d. c .before .before .before .before .before .before .before .before .exponent .ensures d + (c .before .before .before .before .before .before .before .exponent2 .ensures d + (c .before .before .before .before .before .before .exponent3 .ensures d + c .before .before .before .before .before .exponent4 .ensures d))) ∙ omega arith in (
+    let h : 0 < l .i = turn read .loop-test .taken in
+    let x = read .before .before .before .exponent in
+    let y = read .before .before .exponent2 in
+    let z = read .before .exponent3 in
+    let t = read .exponent4 in
+    let sum : x .result + (y .result + (z .result + t .result)) ≡ degree 4 (exponentsOf 16 4 (wordAt s (l .i - 1))) =
+    (λ d. x .ensures d + (y .ensures d + (z .ensures d + t .ensures d))) ∙ omega arith in (
       omega arith,
-      largest-down base (exponent 4 0) s (l .i) n h (l .inv .0) (c .before .before .before .before .greater .ensures) (c .before .before .before .before .before .before .before .before .exponent .ensures) (l .inv .1),
-      largest-down base (exponent 4 1) s (l .i) n h (l .inv .0) (c .before .before .before .greater2 .ensures) (c .before .before .before .before .before .before .before .exponent2 .ensures) (l .inv .2),
-      largest-down base (exponent 4 2) s (l .i) n h (l .inv .0) (c .before .before .greater3 .ensures) (c .before .before .before .before .before .before .exponent3 .ensures) (l .inv .3),
-      largest-down base (exponent 4 3) s (l .i) n h (l .inv .0) (c .before .greater4 .ensures) (c .before .before .before .before .before .exponent4 .ensures) (l .inv .4),
+      largest-down base (exponent 4 0) s (l .i) n h (l .inv .0) (c .before .before .before .before .greater .ensures) (x .ensures) (l .inv .1),
+      largest-down base (exponent 4 1) s (l .i) n h (l .inv .0) (c .before .before .before .greater2 .ensures) (y .ensures) (l .inv .2),
+      largest-down base (exponent 4 2) s (l .i) n h (l .inv .0) (c .before .before .greater3 .ensures) (z .ensures) (l .inv .3),
+      largest-down base (exponent 4 3) s (l .i) n h (l .inv .0) (c .before .greater4 .ensures) (t .ensures) (l .inv .4),
       largest-down base (degree 4) s (l .i) n h (l .inv .0) (c .greater5 .ensures) sum (l .inv .5),
     )
 
@@ -113,7 +127,8 @@ returns c =
     let l = c .before .loop in
     let z : l .i ≡ 0 = omega arith in
     let s = c .before .before .before .args .s .now in
-    let all : (w : Letters 4 .Mon → ℕ) → largest w (terms base s (l .i) (records s - l .i)) ≡ largest w (terms base s 0 (records s)) = λ w. ap (λ x. largest w (terms base s x (records s - x))) z ∙ ap (λ x. largest w (terms base s 0 x)) (sub-zero (records s)) in
+    let all : (w : Letters 4 .Mon → ℕ) → largest w (terms base s (l .i) (records s - l .i)) ≡ largest w (terms base s 0 (records s)) =
+    λ w. ap (λ x. largest w (terms base s x (records s - x))) z ∙ ap (λ x. largest w (terms base s 0 x)) (sub-zero (records s)) in
     λ d. record {
       terms = records s;
       exponents = (l .inv .1 ∙ all (exponent 4 0)) d ∷ (l .inv .2 ∙ all (exponent 4 1)) d ∷ (l .inv .3 ∙ all (exponent 4 2)) d ∷ (l .inv .4 ∙ all (exponent 4 3)) d ∷ [];

@@ -8,20 +8,20 @@ use Rattle.algebra.specs.Residues.{first}
 use Rattle.algebra.proofs.Scan.{first-down}
 use Rattle.monomial.specs.Layout.{base}
 use Rattle.poly.specs.Words.{records}
-use Rattle.refusals.specs.Rules.{guardAt, orderAt, badNumberAt, faultsOf}
+use Rattle.refusals.specs.Rules.{guardAt, orderAt, badCoefAt, faultsOf}
 use borrow.Author.Needs.{needs}
 use Rattle.refusals.proofs.rules.find_faults.Statement.{statement}
 use Rattle.refusals.proofs.rules.find_faults.Tie as tie
 
 abbrev Inv-loop : tie.InvT-loop
-Inv-loop p s n guard₀ order₀ number₀ i₀ guard order number i =
+Inv-loop p s i₀ guard₀ order₀ coef₀ i guard order coef =
     (i ≤ records s)
     × (guard ≡ first (guardAt base s) i (records s - i))
     × (order ≡ first (orderAt s) i (records s - i))
-    × (number ≡ first (badNumberAt p s) i (records s - i))
+    × (coef ≡ first (badCoefAt p s) i (records s - i))
 
 abbrev μ-loop : tie.MeasureT-loop
-μ-loop p s n guard₀ order₀ number₀ i₀ guard order number i = i
+μ-loop p s i₀ guard₀ order₀ coef₀ i guard order coef = i
 
 loop-holds : tie.Need-loop-holds Inv-loop μ-loop
 loop-holds c = (search needs, rw sub-self, rw sub-self, rw sub-self)
@@ -41,8 +41,8 @@ order-at-requires c κs = omega arith
 choose-requires-2 : tie.Need-choose-requires-2 Inv-loop μ-loop
 choose-requires-2 c κs = tt
 
-bad-number-at-requires : tie.Need-bad-number-at-requires Inv-loop μ-loop
-bad-number-at-requires c κs = omega arith
+bad-coef-at-requires : tie.Need-bad-coef-at-requires Inv-loop μ-loop
+bad-coef-at-requires c κs = omega arith
 
 choose-requires-3 : tie.Need-choose-requires-3 Inv-loop μ-loop
 choose-requires-3 c κs = tt
@@ -58,7 +58,7 @@ loop-again c =
       omega arith,
       first-down _ (l .i) n h (l .inv .0) (c .before .before .before .before .choose .ensures) (c .before .before .before .before .before .guard-at .ensures) (l .inv .1),
       first-down _ (l .i) n h (l .inv .0) (c .before .before .choose2 .ensures) (c .before .before .before .order-at .ensures) (l .inv .2),
-      first-down _ (l .i) n h (l .inv .0) (c .choose3 .ensures) (c .before .bad-number-at .ensures) (l .inv .3),
+      first-down _ (l .i) n h (l .inv .0) (c .choose3 .ensures) (c .before .bad-coef-at .ensures) (l .inv .3),
     )
 
 returns : tie.Need-returns Inv-loop μ-loop
@@ -68,7 +68,7 @@ returns c =
     let z : l .i ≡ 0 = omega arith in
     let n = records (c .before .before .before .args .s .now) in
     let all : (t : ℕ → Bool) → first t (l .i) (n - l .i) ≡ first t 0 n = λ t. ap (λ x. first t x (n - x)) z ∙ ap (first t 0) (sub-zero n) in
-    λ d. record { guard = (l .inv .1 ∙ all _) d; order = (l .inv .2 ∙ all _) d; number = (l .inv .3 ∙ all _) d }
+    λ d. record { guard = (l .inv .1 ∙ all _) d; order = (l .inv .2 ∙ all _) d; coef = (l .inv .3 ∙ all _) d }
 
 pub find-faults-spec : {M : Type 1} → statement M
 find-faults-spec =
@@ -82,7 +82,7 @@ find-faults-spec =
     choose-requires
     order-at-requires
     choose-requires-2
-    bad-number-at-requires
+    bad-coef-at-requires
     choose-requires-3
     loop-less
     loop-again

@@ -1,83 +1,42 @@
--- `services::check::check` meets its contract: the rules are folded in their order.
-use mathlib.Core.Path.{_∙_, ap}
-use Rattle.poly.specs.Words.{records}
-use Rattle.refusals.specs.Rules.{atTerm, guardRule, orderRule, numberRule, faultsOf}
-use Rattle.services.specs.Services.{checkOf}
-use Rattle.refusals.proofs.Reports.{chain}
+-- `services::check::check` meets its contract: what is due slice by slice is the first refusal of the ordered list.
+use mathlib.Core.Path.{_≡_, _∙_, ap}
+use mathlib.Core.List.{[], _∷_}
 use borrow.Author.Needs.{needs}
+use Rattle.poly.specs.Words.{records}
+use Rattle.refusals.specs.Reports.{done}
+use Rattle.refusals.specs.Dues.{noDue, withInput, firstDue}
+use Rattle.refusals.specs.declared.due.Due.{Due}
+use Rattle.refusals.proofs.Dues.{dues-first}
+use Rattle.services.specs.Services.{asInput, checkOf}
 use Rattle.services.proofs.check.check.Statement.{statement}
 use Rattle.services.proofs.check.check.Tie as tie
 
-find-faults-requires : tie.Need-find-faults-requires
-find-faults-requires c κs = search needs
+none-requires : tie.Need-none-requires
+none-requires c κs = search needs
 
-at-term-requires : tie.Need-at-term-requires
-at-term-requires c κs = search needs
+input-requires : tie.Need-input-requires
+input-requires c κs = search needs
 
 done-requires : tie.Need-done-requires
 done-requires c κs = search needs
 
-or-else-requires : tie.Need-or-else-requires
-or-else-requires c κs = search needs
+first-requires : tie.Need-first-requires
+first-requires c κs = search needs
 
-at-term-requires-2 : tie.Need-at-term-requires-2
-at-term-requires-2 c κs = search needs
-
-or-else-requires-2 : tie.Need-or-else-requires-2
-or-else-requires-2 c κs = search needs
-
-at-term-requires-3 : tie.Need-at-term-requires-3
-at-term-requires-3 c κs = search needs
-
-or-else-requires-3 : tie.Need-or-else-requires-3
-or-else-requires-3 c κs = search needs
-
-long-rule-requires : tie.Need-long-rule-requires
-long-rule-requires c κs = search needs
-
-or-else-requires-4 : tie.Need-or-else-requires-4
-or-else-requires-4 c κs = search needs
-
-odd-rule-requires : tie.Need-odd-rule-requires
-odd-rule-requires c κs = search needs
-
-or-else-requires-5 : tie.Need-or-else-requires-5
-or-else-requires-5 c κs = search needs
-
-modulus-rule-requires : tie.Need-modulus-rule-requires
-modulus-rule-requires c κs = search needs
-
-or-else-requires-6 : tie.Need-or-else-requires-6
-or-else-requires-6 c κs = search needs
+-- what is due of the slice
+due : (c : tie.After-input) → let a = c .before .before .before .args in c .input .result ≡ withInput (a .p) noDue (asInput (a .s .now))
+due c =
+    let a = c .before .before .before .args in
+    c .input .ensures ∙ ap (λ (d : Due). withInput (a .p) d (asInput (a .s .now))) (c .before .none .ensures)
 
 returns : tie.Need-returns
-unfolding checkOf numberRule orderRule guardRule faultsOf
+unfolding checkOf
 returns c =
-    let n = records (c .before .before .before .before .before .before .before .before .before .before .before .before .before .before .before .args .s .now) in
-    let f = c .before .before .before .before .before .before .before .before .before .before .before .before .before .find-faults .ensures in
-    chain (c .or-else6 .ensures) (c .before .modulus-rule .ensures)
-    (chain (c .before .before .or-else5 .ensures) (c .before .before .before .odd-rule .ensures)
-    (chain (c .before .before .before .before .or-else4 .ensures) (c .before .before .before .before .before .long-rule .ensures)
-    (chain (c .before .before .before .before .before .before .or-else3 .ensures) (c .before .before .before .before .before .before .before .at-term3 .ensures ∙ ap (λ x. atTerm 4 1 (x .guard) n) f)
-    (chain (c .before .before .before .before .before .before .before .before .or-else2 .ensures) (c .before .before .before .before .before .before .before .before .before .at-term2 .ensures ∙ ap (λ x. atTerm 5 1 (x .order) n) f)
-    (chain (c .before .before .before .before .before .before .before .before .before .before .or-else .ensures) (c .before .before .before .before .before .before .before .before .before .before .before .before .at-term .ensures ∙ ap (λ x. atTerm 6 1 (x .number) n) f) (c .before .before .before .before .before .before .before .before .before .before .before .done .ensures))))))
+    let input = c .before .before in
+    let a = input .before .before .before .args in
+    c .first .ensures
+    ∙ (λ i. firstDue (a .p) (due input i) (c .before .done .ensures i))
+    ∙ dues-first (a .p) (asInput (a .s .now) ∷ []) [] (done (records (a .s .now)) 0)
 
 pub check-spec : {M : Type 1} → statement M
-check-spec =
-    tie.close
-    (tie.spec
-    find-faults-requires
-    at-term-requires
-    done-requires
-    or-else-requires
-    at-term-requires-2
-    or-else-requires-2
-    at-term-requires-3
-    or-else-requires-3
-    long-rule-requires
-    or-else-requires-4
-    odd-rule-requires
-    or-else-requires-5
-    modulus-rule-requires
-    or-else-requires-6
-    returns)
+check-spec = tie.close (tie.spec none-requires input-requires done-requires first-requires returns)

@@ -1,6 +1,8 @@
 -- `services::run::scan_power` meets its contract. The loop's invariant: the scan from the start is the scan from i.
-use Prim.Native.Nat.{_≤_, _-_}
+use Prim.Native.Nat.{ℕ, _≤_, _-_}
 use mathlib.Core.Path.{_≡_, refl, sym, _∙_, ap}
+use mathlib.Core.Bool.{Bool}
+use mathlib.Core.List.{List}
 use native.Mathlib.Omega.{arith}
 use borrow.Author.Needs.{needs}
 use Rattle.algebra.specs.Residues.{first}
@@ -10,8 +12,12 @@ use Rattle.services.specs.Services.{powerIs}
 use Rattle.services.proofs.run.scan_power.Statement.{statement}
 use Rattle.services.proofs.run.scan_power.Tie as tie
 
+-- the scan from a term on
+abbrev scanned : List ℕ → ℕ → Bool → ℕ → ℕ
+scanned s power wanted i = first (λ j. powerIs wanted power (wordAt s j)) i (records s - i)
+
 abbrev Inv-loop : tie.InvT-loop
-Inv-loop s power wanted from n i₀ i = (i ≤ records s) × (first (λ j. powerIs wanted power (wordAt s j)) from (records s - from) ≡ first (λ j. powerIs wanted power (wordAt s j)) i (records s - i))
+Inv-loop s power wanted from n i₀ i = (i ≤ records s) × (scanned s power wanted from ≡ scanned s power wanted i)
 
 abbrev μ-loop : tie.MeasureT-loop
 μ-loop s power wanted from n i₀ i = records s - i

@@ -13,17 +13,17 @@ abbrev μ-loop : tie.MeasureT-loop
 loop-holds : tie.Need-loop-holds Inv-loop μ-loop
 loop-holds c = search needs
 
-mul-number : tie.Need-mul-number Inv-loop μ-loop
-mul-number c = search needs
+mul-coef : tie.Need-mul-coef Inv-loop μ-loop
+mul-coef c = search needs
 
-add-number : tie.Need-add-number Inv-loop μ-loop
-add-number c = search needs
+add-coef : tie.Need-add-coef Inv-loop μ-loop
+add-coef c = search needs
 
-mul-number-2 : tie.Need-mul-number-2 Inv-loop μ-loop
-mul-number-2 c = search needs
+mul-coef-2 : tie.Need-mul-coef-2 Inv-loop μ-loop
+mul-coef-2 c = search needs
 
-shared-slice-read-number : tie.Need-shared-slice-read-number Inv-loop μ-loop
-shared-slice-read-number c = search needs
+shared-slice-read-coef : tie.Need-shared-slice-read-coef Inv-loop μ-loop
+shared-slice-read-coef c = search needs
 
 mul-print-term : tie.Need-mul-print-term Inv-loop μ-loop
 mul-print-term c = search needs
@@ -59,10 +59,10 @@ print-poly-spec =
     Inv-loop
     μ-loop
     loop-holds
-    mul-number
-    add-number
-    mul-number-2
-    shared-slice-read-number
+    mul-coef
+    add-coef
+    mul-coef-2
+    shared-slice-read-coef
     mul-print-term
     mul-print-term-2
     shared-slice-read-print-term

@@ -110,7 +110,8 @@ loop-again : tie.Need-loop-again Inv-loop μ-loop
 loop-again c =
     let l = c .before .before .before .before .before .before .loop in (
       omega arith,
-      build-more _ _ _ (l .at - 1) _ (c .before .before .before .before .before .before .before .before .pre) (omega arith) (omega arith) (build-less _ _ _ (l .at) (l .at - 1 + 1) (omega arith) (l .inv .1)) (c .better .ensures),
+      build-more _ _ _ (l .at - 1) _ (c .before .before .before .before .before .before .before .before .pre) (omega arith) (omega arith)
+          (build-less _ _ _ (l .at) (l .at - 1 + 1) (omega arith) (l .inv .1)) (c .better .ensures),
     )
 
 same-length : tie.Need-same-length Inv-loop μ-loop

@@ -17,7 +17,10 @@ same-length : tie.Need-same-length
 same-length c = search needs
 
 returns : tie.Need-returns
-returns c = starts _ _ _ _ _ (c .before .before .before .before .before .before .before .before .before .before .before .before .pre .0 .0) (c .before .before .before .before .before .before .before .before .before .before .before .before .pre .0 .1) (c .before .before .before .before .before .before .before .before .before .before .before .before .pre .0 .2) (c .before .before .before .before .before .before .plant .ensures) (c .before .before .build .ensures)
+returns c = starts _ _ _ _ _ (c .before .before .before .before .before .before .before .before .before .before .before .before .pre .0 .0)
+    (c .before .before .before .before .before .before .before .before .before .before .before .before .pre .0 .1)
+    (c .before .before .before .before .before .before .before .before .before .before .before .before .pre .0 .2)
+    (c .before .before .before .before .before .before .plant .ensures) (c .before .before .build .ensures)
 
 pub start-spec : {M : Type 1} → statement M
 start-spec =

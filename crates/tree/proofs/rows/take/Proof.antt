@@ -3,8 +3,8 @@ use Prim.Native.Nat.{_*_, _^_, _<_}
 use native.Mathlib.Omega.{arith}
 use lib.ListN.{length}
 use Rattle.field.proofs.Bounds.{product-small}
-use Rattle.poly.specs.Words.{records, numberAt}
-use Rattle.tree.specs.Tree.{rowOf, columnOf, left}
+use Rattle.poly.specs.Words.{records, coefAt}
+use Rattle.tree.specs.Tree.{tagAt, rowOf, columnOf, awaited}
 use Rattle.tree.proofs.Taking.{Taking, Hand, hand, taken, length-weigh, take-starts, take-steps, take-ends}
 use Rattle.tree.proofs.rows.take.Statement.{statement}
 use Rattle.tree.proofs.rows.take.Tie as tie
@@ -13,23 +13,41 @@ abbrev Inv-loop : tie.InvT-loop
 Inv-loop p rows cols work₀ k count sum₀ at₀ work sum at = Taking rows cols p k work₀ work sum at
 
 abbrev μ-loop : tie.MeasureT-loop
-μ-loop p rows cols work₀ k count sum₀ at₀ work sum at = length (left rows cols work 0 (records rows))
+μ-loop p rows cols work₀ k count sum₀ at₀ work sum at = length (awaited rows cols work 0 (records rows))
+
+abbrev start : tie.At-loop Inv-loop μ-loop → tie.Start Inv-loop μ-loop
+start c = c .before .before .before .before
+
+-- the loop, where its test found a record
+abbrev loop : tie.Then1 Inv-loop μ-loop → tie.At-loop Inv-loop μ-loop
+loop c = c .before .before
+
+-- the record found, where both its numbers were read
+abbrev found : tie.After-shared-slice-known4 Inv-loop μ-loop → tie.Then1 Inv-loop μ-loop
+found c = c .before .before .before
 
 -- the record that the loop's test found
-in-hand : (c : tie.Then1 Inv-loop μ-loop) → Hand (c .before .before .before .before .before .before .args .rows .now) (c .before .before .before .before .before .before .args .cols .now) (c .before .before .loop .work) (c .before .before .before .before .before .before .args .k) (numberAt (c .before .before .loop .work) (c .before .before .loop .at))
+in-hand : (c : tie.Then1 Inv-loop μ-loop) → let l = loop c in let s = start l .args in
+    Hand (s .rows .now) (s .cols .now) (l .loop .work) (s .k) (tagAt (l .loop .work) (l .loop .at))
 in-hand c =
-    let t = c .before .before .loop .inv in
-    hand _ _ _ _ _ (c .before .before .before .before .before .before .pre .0 .2) (t .from) (t .within) (t .settled) (t .waiting) (c .if1 .taken)
+    let t = loop c .loop .inv in
+    hand _ _ _ _ _ (start (loop c) .pre .0 .2) (t .from) (t .within) (t .settled) (t .waiting) (c .if1 .taken)
 
 -- the two numbers that are multiplied
-factors : (c : tie.Then1 Inv-loop μ-loop) → (numberAt (c .before .before .before .before .before .before .args .rows .now) (rowOf (numberAt (c .before .before .loop .work) (c .before .before .loop .at))) < c .before .before .before .before .before .before .args .p) × (numberAt (c .before .before .before .before .before .before .args .cols .now) (columnOf (numberAt (c .before .before .loop .work) (c .before .before .loop .at))) < c .before .before .before .before .before .before .args .p)
-factors c = (c .before .before .before .before .before .before .pre .1 .0 .rows-numbers _ (in-hand c .row), c .before .before .before .before .before .before .pre .1 .0 .cols-numbers _ (in-hand c .column))
+factors : (c : tie.Then1 Inv-loop μ-loop) → let l = loop c in let s = start l .args in let tag = tagAt (l .loop .work) (l .loop .at) in
+    (coefAt (s .rows .now) (rowOf tag) < s .p) × (coefAt (s .cols .now) (columnOf tag) < s .p)
+factors c = let S = start (loop c) .pre .1 .0 in (S .rows-coefs _ (in-hand c .row), S .cols-coefs _ (in-hand c .column))
 
-small : (c : tie.Then1 Inv-loop μ-loop) → numberAt (c .before .before .before .before .before .before .args .rows .now) (rowOf (numberAt (c .before .before .loop .work) (c .before .before .loop .at))) * numberAt (c .before .before .before .before .before .before .args .cols .now) (columnOf (numberAt (c .before .before .loop .work) (c .before .before .loop .at))) < 2 ^ 62
-small c = product-small _ _ (omega (arith, factors c, c .before .before .before .before .before .before .pre .0 .1)) (omega (arith, factors c, c .before .before .before .before .before .before .pre .0 .1))
+small : (c : tie.Then1 Inv-loop μ-loop) → let l = loop c in let s = start l .args in let tag = tagAt (l .loop .work) (l .loop .at) in
+    coefAt (s .rows .now) (rowOf tag) * coefAt (s .cols .now) (columnOf tag) < 2 ^ 62
+small c =
+    let bounded = start (loop c) .pre .0 .1 in
+    product-small _ _ (omega (arith, factors c, bounded)) (omega (arith, factors c, bounded))
 
 loop-holds : tie.Need-loop-holds Inv-loop μ-loop
-loop-holds c = take-starts _ _ _ _ _ (c .before .before .before .pre .0 .0) (c .before .before .before .pre .0 .3) (c .before .before .before .pre .1 .1)
+loop-holds c =
+    let s = c .before .before .before .pre in
+    take-starts _ _ _ _ _ (s .0 .0) (s .0 .3) (s .1 .1)
 
 mul-if1 : tie.Need-mul-if1 Inv-loop μ-loop
 mul-if1 c = omega arith
@@ -74,56 +92,75 @@ mul-sum-4 : tie.Need-mul-sum-4 Inv-loop μ-loop
 mul-sum-4 c = omega (arith, in-hand (c .before .before) .column)
 
 shared-slice-read-sum-2 : tie.Need-shared-slice-read-sum-2 Inv-loop μ-loop
-shared-slice-read-sum-2 c = omega (arith, in-hand (c .before .before .before) .column)
+shared-slice-read-sum-2 c = omega (arith, in-hand (found c) .column)
 
 mul-sum-5 : tie.Need-mul-sum-5 Inv-loop μ-loop
-mul-sum-5 c = omega (arith, small (c .before .before .before))
+mul-sum-5 c = omega (arith, small (found c))
 
 add-sum-3 : tie.Need-add-sum-3 Inv-loop μ-loop
-add-sum-3 c = omega (arith, small (c .before .before .before), c .before .before .before .before .before .loop .inv .small, c .before .before .before .before .before .before .before .before .before .pre .0 .1)
+add-sum-3 c =
+    let l = loop (found c) in
+    omega (arith, small (found c), l .loop .inv .small, start l .pre .0 .1)
 
 rem-sum : tie.Need-rem-sum Inv-loop μ-loop
-rem-sum c = omega (arith, c .before .before .before .before .before .before .before .before .before .pre .0 .0)
+rem-sum c = omega (arith, start (loop (found c)) .pre .0 .0)
 
 mul-after : tie.Need-mul-after Inv-loop μ-loop
-mul-after c = omega (arith, in-hand (c .before .before .before) .row)
+mul-after c = omega (arith, in-hand (found c) .row)
 
 mul-after-2 : tie.Need-mul-after-2 Inv-loop μ-loop
-mul-after-2 c = omega (arith, in-hand (c .before .before .before) .row)
+mul-after-2 c = omega (arith, in-hand (found c) .row)
 
 shared-slice-read-after : tie.Need-shared-slice-read-after Inv-loop μ-loop
-shared-slice-read-after c = omega (arith, in-hand (c .before .before .before .before) .row)
+shared-slice-read-after c = omega (arith, in-hand (found (c .before)) .row)
 
 after-requires : tie.Need-after-requires Inv-loop μ-loop
 after-requires c κs =
-    let S = c .before .before .before .before .before .before .before .before .before .before .pre .1 .0 in
-    let h = in-hand (c .before .before .before .before) in
+    let S = start (loop (found (c .before))) .pre .1 .0 in
+    let h = in-hand (found (c .before)) in
     (S .rows-words _ (h .row), h .column, omega (arith, h .row, S .few .0), S .cols-words)
 
 add-climb : tie.Need-add-climb Inv-loop μ-loop
-add-climb c = omega (arith, in-hand (c .before .before .before .before .before .before) .row)
+add-climb c = omega (arith, in-hand (found (c .before .before .before)) .row)
 
 climb-requires : tie.Need-climb-requires Inv-loop μ-loop
 climb-requires c κs =
-    let h = in-hand (c .before .before .before .before .before .before) in
-    ((omega arith, omega (arith, h .row), c .before .before .before .before .before .before .before .before .loop .inv .long, omega (arith, c .before .before .before .before .before .before .before .before .before .before .before .before .pre .0 .3)), h .settled)
+    let r = found (c .before .before .before) in
+    let h = in-hand r in
+    ((omega arith, omega (arith, h .row), loop r .loop .inv .long, omega (arith, start (loop r) .pre .0 .3)), h .settled)
+
+-- the record found, at the end of a turn
+abbrev turn : tie.After-slice-known4 Inv-loop μ-loop → tie.Then1 Inv-loop μ-loop
+turn c = found (c .before .before .before .before .before .before)
 
 loop-less : tie.Need-loop-less Inv-loop μ-loop
 loop-less c =
-    let rows = c .before .before .before .before .before .before .before .before .before .before .before .before .before .before .before .args .rows .now in
-    let cols = c .before .before .before .before .before .before .before .before .before .before .before .before .before .before .before .args .cols .now in
-    let gone = taken rows cols _ (c .before .before .before .before .before .before .before .before .before .before .before .before .before .before .before .pre .1 .0) _ _ _ _ _ (c .before .before .before .before .before .before .before .before .before .before .before .before .before .before .before .pre .0 .2) (in-hand (c .before .before .before .before .before .before .before .before .before)) _ (c .before .before .before .before .after .ensures) (c .before .before .climb .ensures) (λ u. 1) in
-    omega (arith, gone, length-weigh (left rows cols (c .before .before .before .before .before .before .before .before .before .before .before .loop .work) 0 (records rows)), length-weigh (left rows cols (c .before .before .climb .last .0) 0 (records rows)))
+    let r = turn c in
+    let s = start (loop r) in
+    let rows = s .args .rows .now in
+    let cols = s .args .cols .now in
+    let gone =
+    taken rows cols _ (s .pre .1 .0) _ _ _ _ _ (s .pre .0 .2) (in-hand r) _ (c .before .before .before .before .after .ensures) (c .before .before .climb .ensures)
+    (λ u. 1) in
+    omega (
+      arith,
+      gone,
+      length-weigh (awaited rows cols (loop r .loop .work) 0 (records rows)),
+      length-weigh (awaited rows cols (c .before .before .climb .last .0) 0 (records rows)),
+    )
 
 loop-again : tie.Need-loop-again Inv-loop μ-loop
 loop-again c =
-    take-steps _ _ _ _ _ _ _ _ _ _ _ _ (c .before .before .before .before .before .before .before .before .before .before .before .before .before .before .before .pre .0 .0) (c .before .before .before .before .before .before .before .before .before .before .before .before .before .before .before .pre .0 .2) (c .before .before .before .before .before .before .before .before .before .before .before .before .before .before .before .pre .1 .0) (c .before .before .before .before .before .before .before .before .before .before .before .loop .inv) (in-hand (c .before .before .before .before .before .before .before .before .before)) (c .before .before .before .before .after .ensures) (c .before .before .climb .ensures)
+    let r = turn c in
+    let s = start (loop r) .pre in
+    take-steps _ _ _ _ _ _ _ _ _ _ _ _ (s .0 .0) (s .0 .2) (s .1 .0) (loop r .loop .inv) (in-hand r) (c .before .before .before .before .after .ensures)
+    (c .before .before .climb .ensures)
 
 same-length : tie.Need-same-length Inv-loop μ-loop
 same-length c = c .before .before .loop .inv .as-long
 
 returns : tie.Need-returns Inv-loop μ-loop
-returns c = take-ends _ _ _ _ _ _ _ _ (c .before .before .before .before .before .before .pre .0 .3) (c .before .before .loop .inv) (c .if1 .left)
+returns c = let l = c .before .before in take-ends _ _ _ _ _ _ _ _ (start l .pre .0 .3) (l .loop .inv) (c .if1 .left)
 
 pub take-spec : {M : Type 1} → statement M
 take-spec =

@@ -5,7 +5,10 @@ use Rattle.walk.proofs.heads.take_at.Statement.{statement}
 use Rattle.walk.proofs.heads.take_at.Tie as tie
 
 returns : tie.Need-returns
-returns c = (nothing-taken _ _ _ _ _ (c .before .before .before .before .pre .0 .0) (c .before .before .before .before .pre .0 .2) (c .before .before .before .before .pre .1 .1 (c .if1 .taken)) (c .before .before .before .before .pre .1 .0), c .before .before .before .before .pre .1 .1)
+returns c =
+    let asked = c .before .before .before .before .pre in
+    let idle = asked .1 .1 in
+    (nothing-taken (asked .0 .0) (asked .0 .2) (idle (c .if1 .taken)) (asked .1 .0), idle)
 
 take-requires : tie.Need-take-requires
 take-requires c κs = search needs

@@ -12,10 +12,16 @@ same-length : tie.Need-same-length
 same-length c = search needs
 
 returns : tie.Need-returns
-returns c = let s = c .before .before .before .before .before .before .before .before .pre in row-alone _ _ _ _ _ _ _ (s .0 .0) (s .1 .0 .0) (s .1 .1) _ (c .before .before .before .put-term .ensures) (c .if1 .taken) (s .1 .0 .2)
+returns c =
+    let written = c .before .before .before in
+    let asked = written .before .before .before .before .before .pre in
+    row-alone _ _ (asked .0 .0) (asked .1 .0 .0) (asked .1 .1) (written .put-term .ensures) (c .if1 .taken) (asked .1 .0 .2)
 
 add-requires : tie.Need-add-requires
-add-requires c κs = let s = c .before .before .before .before .before .before .before .before .before .before .pre in row-ready _ _ _ _ _ _ _ (s .0 .0) (s .1 .0 .0) (s .1 .1) _ (c .before .before .before .before .before .put-term .ensures) (s .0 .1) (s .0 .3) (omega arith) (s .0 .4) (s .1 .0 .1) (s .1 .0 .2)
+add-requires c κs =
+    let written = c .before .before .before .before .before in
+    let asked = written .before .before .before .before .before .pre in
+    row-ready _ _ (asked .0 .0) (asked .1 .0 .0) (asked .1 .1) (written .put-term .ensures) (asked .0 .1) (asked .0 .3) (omega arith) (asked .0 .4) (asked .1 .0 .1) (asked .1 .0 .2)
 
 same-length-2 : tie.Need-same-length-2
 same-length-2 c = search needs
@@ -24,7 +30,11 @@ same-length-3 : tie.Need-same-length-3
 same-length-3 c = search needs
 
 returns-2 : tie.Need-returns-2
-returns-2 c = let s = c .before .before .before .before .before .before .before .before .before .before .before .before .before .pre in row-more _ _ _ _ _ _ _ (s .0 .0) (s .1 .0 .0) (s .1 .1) _ (c .before .before .before .before .before .before .before .before .put-term .ensures) _ (c .before .before .add .ensures)
+returns-2 c =
+    let added = c .before .before in
+    let written = added .before .before .before .before .before .before in
+    let asked = written .before .before .before .before .before .pre in
+    row-more _ _ (asked .0 .0) (asked .1 .0 .0) (asked .1 .1) (written .put-term .ensures) (added .add .ensures)
 
 pub put-row-spec : {M : Type 1} → statement M
 put-row-spec =

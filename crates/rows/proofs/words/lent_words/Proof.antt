@@ -1,0 +1,12 @@
+-- `rows::words::lent_words` meets its contract.
+use mathlib.Core.Path.{refl}
+use Rattle.rows.specs.Cases.{lent}
+use Rattle.rows.proofs.words.lent_words.Statement.{statement}
+use Rattle.rows.proofs.words.lent_words.Tie as tie
+
+returns : tie.Need-returns
+unfolding lent
+returns c = record { words = refl; long = refl }
+
+pub lent-words-spec : {M : Type 1} → statement M
+lent-words-spec = tie.close (tie.spec returns)

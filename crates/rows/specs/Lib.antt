@@ -1,0 +1,2 @@
+-- What a row that is tried has to leave.
+pub mod Cases

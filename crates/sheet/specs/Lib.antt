@@ -1,2 +1,0 @@
--- What a case of the program has to leave.
-pub mod Cases
