@@ -1,8 +1,8 @@
 /* Cancels a common factor: a formula is a fraction of two polynomials, and somebody proposes a factor
  * of both. Where it divides both, the reduced fraction is printed. Otherwise the program says which of
- * two things it met: "no", the factor divides not both, or "no room", the quotient is longer than the
- * room it was given, and nothing is known. Taking the second for the first, or cancelling all the
- * same, would be a wrong formula.
+ * two things it met: "no", the factor divides not both, or "no room", the room is too short to tell: a
+ * quotient, if there is one, is longer. Taking the second for the first, or cancelling all the same,
+ * would be a wrong formula.
  *
  * The three fractions below stand in the program as arrays; coefficients are modulo 101. */
 #include <inttypes.h>
@@ -10,7 +10,11 @@
 
 #include "garantepo.h"
 
-enum { MODULUS = 101, ROOM_TERMS = 4096, DONE = 0, NO_ROOM = 10, NO = 12 };
+#define MODULUS 101
+
+/* The longest quotient room there is, and the work that it takes, in words. */
+#define ROOM_WORDS (2 * GARANTEPO_INPUT_TERMS)
+#define WORK_WORDS (GARANTEPO_WORK_WORDS * GARANTEPO_INPUT_TERMS)
 
 /* A term of a slice: its monomial word and its coefficient. */
 #define TERM(c, x, y, z, t) \
@@ -23,9 +27,9 @@ typedef struct { const uint64_t *words; size_t count; } polynomial;
 #define POLYNOMIAL(a) ((polynomial){ (a), WORDS(a) })
 
 /* One room for each quotient, and the work that both divisions use in turn. */
-static uint64_t upper_room[2 * ROOM_TERMS];
-static uint64_t lower_room[2 * ROOM_TERMS];
-static uint64_t work[4 * ROOM_TERMS];
+static uint64_t upper_room[ROOM_WORDS];
+static uint64_t lower_room[ROOM_WORDS];
+static uint64_t work[WORK_WORDS];
 
 /* A power of one letter, with the sign of multiplication where something stands before it. */
 static int print_power(char letter, uint64_t exponent, int after)
@@ -62,19 +66,24 @@ static void print_polynomial(polynomial f)
 /* What the divide test met, where it was not "yes". */
 static void print_trouble(const char *which, garantepo_report met)
 {
-    if (met.number == NO)
+    switch (met.number) {
+    case GARANTEPO_NOT_DIVISIBLE:
         printf("  no: the factor does not divide the %s polynomial\n", which);
-    else if (met.number == NO_ROOM)
-        printf("  no room: %d terms cannot hold a quotient of the %s polynomial\n", ROOM_TERMS, which);
-    else
+        break;
+    case GARANTEPO_NO_ROOM:
+        printf("  no room: %" PRIu64 " terms cannot hold a quotient of the %s polynomial\n",
+               GARANTEPO_INPUT_TERMS, which);
+        break;
+    default:
         printf("  refused: reply %" PRIu64 ", operand %" PRIu64 ", term %" PRIu64 "\n",
                met.number, met.operand, met.index);
+    }
 }
 
 static garantepo_report divide_out(polynomial f, polynomial factor, uint64_t *room)
 {
     return garantepo_divides(MODULUS, f.words, f.count, factor.words, factor.count,
-                             room, 2 * ROOM_TERMS, work, 4 * ROOM_TERMS);
+                             room, ROOM_WORDS, work, WORK_WORDS);
 }
 
 static void cancel(polynomial upper, polynomial lower, polynomial factor)
@@ -87,12 +96,12 @@ static void cancel(polynomial upper, polynomial lower, polynomial factor)
     print_polynomial(factor);
     printf("\n");
     garantepo_report first = divide_out(upper, factor, upper_room);
-    if (first.number != DONE) {
+    if (first.number != GARANTEPO_DONE) {
         print_trouble("first", first);
         return;
     }
     garantepo_report second = divide_out(lower, factor, lower_room);
-    if (second.number != DONE) {
+    if (second.number != GARANTEPO_DONE) {
         print_trouble("second", second);
         return;
     }

@@ -3,36 +3,15 @@
  * Every function here is proved: for all arguments there are it gives the answer that its comment
  * tells, and leaves the words lent to it as the table of replies says. No call has a precondition
  * on what the words hold: a bad modulus, a malformed polynomial or a short array gets a numbered
- * refusal.
+ * refusal. The rules that the comments give in short are docs/RULES.md of the repository.
  *
- * A polynomial is a slice of 64-bit words, two to a term, the monomial word and then the
- * coefficient; the empty slice is zero.
- *   - Monomial word: the exponent of x in bits 63 to 48, of y in 47 to 32, of z in 31 to 16, of t
- *     in 15 to 0. The top bit of each sixteen is a guard bit and must be 0, so that an exponent is
- *     0 to 32,767.
- *   - Coefficients are 1 to p - 1.
- *   - Monomial words fall strictly from term to term, which is lexicographic order with x above y
- *     above z above t.
+ * Contents: polynomials, what a host has to keep to, limits, replies, answers; then the calls: check,
+ * profile and run; sum, difference and product; division and divide test; single numbers modulo p;
+ * monomial words.
  *
- * The command `rt staticlib host` proves the library and writes target/staticlib/libhost.a, which a
- * program links; examples/cancel.c is one.
- *
- * p is a prime from 2 to 2,147,483,647. An input and a quotient room have at most 4,096 terms, any
- * other room at most 16,777,216. A longer work array than a call needs is accepted.
- *
- * What a host has to keep to
- *   - A slice is a pointer and its number of words (not of bytes and not of terms). The words are
- *     there: the library reads and writes up to that number.
- *   - The pointer is a multiple of 8. It is not null, not even for an empty slice, whose pointer is
- *     never read: any array will do.
- *   - The inputs of a call may be one and the same slice, and may overlap one another.
- *   - Outputs and work overlap nothing else that the call is lent, neither an input nor one another.
- *   - While a call runs nobody else writes the inputs, and nobody else reads or writes the outputs
- *     and the work.
- *   - Structs are passed as the C compiler of x86-64 Linux passes them; the library is for that
- *     system alone.
- * A call touches nothing but what it is lent: no heap, no state, no file, and no word beside a
- * slice. So calls on different arrays may run at the same time.
+ * The library is libgarantepo.a (-lgarantepo, or what `pkg-config --cflags --libs garantepo` says),
+ * for x86-64 Linux alone. The command `rt staticlib garantepo` proves it and writes it to
+ * target/staticlib; examples/cancel.c is a program that links it.
  */
 #ifndef GARANTEPO_H
 #define GARANTEPO_H
@@ -44,30 +23,80 @@
 extern "C" {
 #endif
 
-/* The numbered replies: when each is given, and what the outputs and the work hold afterwards.
+/* ---- Polynomials --------------------------------------------------------------------------------
  *
- *   no.  given exactly when                                  outputs and work afterwards
- *    0   done (the divide test: yes)                         result terms, then zero words to the
- *                                                            end; work all zero
- *    1   p is not a prime in its range                       unchanged
- *    2   an input or output slice has odd length             unchanged
- *    3   an input or room is over its number of terms        unchanged
- *    4   a guard bit is set                                  unchanged
- *    5   a monomial is not below the one before              unchanged
- *    6   a coefficient is 0 or at least p                    unchanged
- *    7   the divisor is zero                                 unchanged
- *    8   the work array is too short                         unchanged
- *    9   an exponent over 32,767, as told at each function   all zero
- *   10   no room in the sum, product or quotient             all zero
- *   11   no room in the remainder                            all zero
- *   12   the divide test: no                                 all zero
+ * A polynomial is a slice of 64-bit words, two to a term: the monomial word and behind it the
+ * coefficient. The empty slice is zero.
+ *   - Monomial word: bits 63 to 48 have the exponent of x, 47 to 32 of y, 31 to 16 of z, 15 to 0 of
+ *     t. The highest bit of each sixteen is a guard bit and is 0.
+ *   - Coefficients are 1 to p - 1.
+ *   - From term to term the monomial word gets smaller, which is lexicographic order, x before y
+ *     before z before t.
  *
- * Of 1 to 8 the lowest number wins, then the lowest operand, then the lowest term. */
+ * ---- What a host has to keep to -----------------------------------------------------------------
+ *
+ *   - A slice is a pointer and its number of words (not of bytes and not of terms). The words are
+ *     there: the library reads and writes up to that number.
+ *   - The pointer is a multiple of 8. It is not null, not even for an empty slice, whose pointer is
+ *     never read: any array will do.
+ *   - The inputs of a call may be one and the same slice, and may overlap one another.
+ *   - Outputs and work overlap nothing else that the call is lent, neither an input nor one another.
+ *   - While a call runs nobody else writes the inputs, and nobody else reads or writes the outputs
+ *     and the work.
+ *   - Structs are passed as the C compiler of x86-64 Linux passes them.
+ * A call touches nothing but what it is lent: no heap, no state, no file, and no word beside a
+ * slice. So calls on different arrays may run at the same time. */
 
-/* number: the reply. operand: what 2 to 8 blame: 1 the first input, 2 the second, 3 the first
- * output, 4 the second output, 5 the work array; 0 in every other reply. index: of 4, 5 and 6 the
- * term, from 0 (of 5 the later of the two terms); else 0. first and second: in reply 0 the terms of
- * the first and of the second output, 0 where there is none; else 0. */
+/* ---- Limits ---------------------------------------------------------------------------------- */
+
+/* The modulus is a prime from 2 to this. */
+#define GARANTEPO_LARGEST_MODULUS UINT64_C(2147483647)
+
+#define GARANTEPO_LARGEST_EXPONENT UINT64_C(32767)
+
+/* Most terms of an input, and of the room for a quotient. A term is two words. */
+#define GARANTEPO_INPUT_TERMS UINT64_C(4096)
+
+/* Most terms of the room for a sum, a difference, a product or a remainder. */
+#define GARANTEPO_ROOM_TERMS UINT64_C(16777216)
+
+/* The work array has at least so many words for each term of the factor that has fewer (product), or
+ * for each term that the quotient room can hold (division, divide test). A longer one is accepted,
+ * and what it holds at first does not matter. */
+#define GARANTEPO_WORK_WORDS UINT64_C(4)
+
+/* ---- Replies ------------------------------------------------------------------------------------
+ *
+ * A reply is given when its line says so, and not otherwise. When several refusals, 1 to 8, are due,
+ * the smaller number is told, then the smaller operand, then the earlier term; the others are only
+ * asked when no refusal is due. */
+enum garantepo_reply {
+    /* The outputs have the result's terms and zero words behind them; the work is all zero. */
+    GARANTEPO_DONE = 0, /* done; the divide test: yes */
+
+    /* Refusals: outputs and work are as they were lent. */
+    GARANTEPO_BAD_MODULUS = 1,     /* p is no prime, or over its limit */
+    GARANTEPO_ODD_LENGTH = 2,      /* an input or output has an odd number of words */
+    GARANTEPO_TOO_LONG = 3,        /* an input or room has more terms than its limit */
+    GARANTEPO_BAD_MONOMIAL = 4,    /* a guard bit is set; packing: an exponent is over its limit */
+    GARANTEPO_BAD_ORDER = 5,       /* a monomial word is as large as the one before it, or larger */
+    GARANTEPO_BAD_COEFFICIENT = 6, /* a coefficient is 0, or p, or larger */
+    GARANTEPO_ZERO_DIVISOR = 7,    /* the divisor is zero */
+    GARANTEPO_SHORT_WORK = 8,      /* the work array is too short */
+
+    /* Outputs and work are all zero. */
+    GARANTEPO_BIG_EXPONENT = 9,       /* an exponent would pass its limit, see each call */
+    GARANTEPO_NO_ROOM = 10,           /* the sum, difference, product or quotient does not fit */
+    GARANTEPO_NO_REMAINDER_ROOM = 11, /* the remainder does not fit */
+    GARANTEPO_NOT_DIVISIBLE = 12      /* the divide test: no */
+};
+
+/* ---- Answers --------------------------------------------------------------------------------- */
+
+/* number: the reply. operand: what 2 to 8 blame, where 1 is the first input and 2 the second, 3 the
+ * first output and 4 the second, 5 the work array; 0 in every other reply. index: in 4, 5 and 6 the
+ * term at fault, counted from 0, and in 5 the second of the two; else 0. first and second: in reply 0
+ * the terms of the first and of the second output, 0 where there is none; else 0. */
 typedef struct { uint64_t number, operand, index, first, second; } garantepo_report;
 
 /* An answer without a report: the reply, and the value, 0 beside a refusal. */
@@ -84,6 +113,8 @@ typedef struct { garantepo_report report; garantepo_profile profile; } garantepo
 /* A part of a slice lent: its words from start up to, and without, end. */
 typedef struct { uint64_t start, end; } garantepo_part;
 
+/* ---- Check, profile and run ------------------------------------------------------------------ */
+
 /* Whether a is a polynomial modulo p: a refusal 1 to 6, or reply 0 with its term count first. */
 garantepo_report garantepo_check(uint64_t p, const uint64_t *a, size_t a_len);
 
@@ -91,13 +122,15 @@ garantepo_report garantepo_check(uint64_t p, const uint64_t *a, size_t a_len);
  * every degree is 0; beside a refusal every number of the profile is 0. */
 garantepo_profiled garantepo_profile_of(uint64_t p, const uint64_t *a, size_t a_len);
 
-/* Where the terms with one power of x lie: side by side, in this order of terms. The part is empty,
- * at the front, where no term has that power (any power above 32,767 included) or a fails 2, 3, 4
- * or 5. */
+/* Where the terms with one power of x are, which stand side by side. The part is empty, at the
+ * front, where that power does not occur (as none above 32,767 does) or where 2, 3, 4 or 5 is due
+ * of a. Coefficients are not looked at. */
 garantepo_part garantepo_run(const uint64_t *a, size_t a_len, uint64_t power);
 
-/* The sum a + b and the difference a - b. 10 exactly when the true result, after cancellation, has
- * more terms than out has room for. */
+/* ---- Sum, difference and product ------------------------------------------------------------- */
+
+/* The sum a + b and the difference a - b. 10 when out cannot hold the terms that are left once
+ * others have cancelled. */
 garantepo_report garantepo_sum(uint64_t p, const uint64_t *a, size_t a_len,
                                const uint64_t *b, size_t b_len,
                                uint64_t *out, size_t out_len);
@@ -105,22 +138,23 @@ garantepo_report garantepo_difference(uint64_t p, const uint64_t *a, size_t a_le
                                       const uint64_t *b, size_t b_len,
                                       uint64_t *out, size_t out_len);
 
-/* The product a * b. Work: at least 4 words for each term of the shorter factor. If either factor is
- * zero, the product is zero. Else 9 exactly when the largest exponents of some letter in a and in b
- * add up to more than 32,767. Else 10 exactly when the true product, after cancellation, has more
- * terms than out has room for. */
+/* The product a * b. Work: 4 words or more for each term of the factor that has fewer. A zero factor
+ * makes it zero. Otherwise 9 when for some letter the largest exponents in a and in b add up to more
+ * than 32,767, and otherwise 10 as for the sum. */
 garantepo_report garantepo_product(uint64_t p, const uint64_t *a, size_t a_len,
                                    const uint64_t *b, size_t b_len,
                                    uint64_t *out, size_t out_len,
                                    uint64_t *work, size_t work_len);
 
+/* ---- Division and divide test ---------------------------------------------------------------- */
+
 /* Division of f by g with remainder. With reply 0, f = q * g + r, and the lead monomial of g divides
- * no term of r. Work: at least 4 words for each term that q has room for.
- * It begins with f. While something remains, it takes its greatest term. If the lead monomial of g
- * divides it, the quotient gets the term divided by the lead term of g, and that quotient term times
- * g is subtracted; first it is tried: 9 if its exponent of some letter plus the largest of that
- * letter in g is over 32,767, otherwise 10 if q is full. If not, the term moves to r, or 11 if r is
- * full. The first trouble met in this falling order is the answer. */
+ * no term of r. Work: 4 words or more for each term that q has room for.
+ * What remains is f at first, and its greatest term is handled until nothing remains. If the lead
+ * monomial of g divides that term, then the term divided by g's lead term goes to q, and times g it
+ * is taken away from what remains; before this, 9 when for some letter its exponent and the largest
+ * in g add up to more than 32,767, and then 10 when q is full. Otherwise the term goes to r, or 11
+ * when r is full. The first of these that comes up ends the division. */
 garantepo_report garantepo_divide(uint64_t p, const uint64_t *f, size_t f_len,
                                   const uint64_t *g, size_t g_len,
                                   uint64_t *q, size_t q_len,
@@ -129,26 +163,29 @@ garantepo_report garantepo_divide(uint64_t p, const uint64_t *f, size_t f_len,
 
 /* Whether g divides f: 0 for yes, with the quotient in q; 12 for no: no polynomial of any size times
  * g is f; 10 where q is too short to tell: a polynomial that times g is f, if there is one, has more
- * terms than q has room for. Work: at least 4 words for each term that q has room for. Zero is
- * divided by every g that is not zero, with quotient zero. */
+ * terms than q has room for. Never 9 or 11. Work: 4 words or more for each term that q has room for.
+ * Zero is divided by every g that is not zero; the quotient is zero. */
 garantepo_report garantepo_divides(uint64_t p, const uint64_t *f, size_t f_len,
                                    const uint64_t *g, size_t g_len,
                                    uint64_t *q, size_t q_len,
                                    uint64_t *work, size_t work_len);
 
-/* The single field operations: the sum and the product of two residues from 0 to p - 1, and the
- * inverse of one from 1 to p - 1. They refuse 1 first, then 6 for an operand of p or more, and for
- * the inverse of 0. */
+/* ---- Single numbers modulo p --------------------------------------------------------------------
+ *
+ * 1 comes first, then 6 for an operand that is p or larger, and for the inverse of 0. */
+
+/* The sum and the product of two residues from 0 to p - 1, and the inverse of one from 1 to p - 1. */
 garantepo_value garantepo_field_sum(uint64_t p, uint64_t a, uint64_t b);
 garantepo_value garantepo_field_product(uint64_t p, uint64_t a, uint64_t b);
 garantepo_value garantepo_field_inverse(uint64_t p, uint64_t a);
 
-/* The residue, from 0 to p - 1, of any signed 32-bit number; only reply 1 can refuse it. */
+/* The residue, from 0 to p - 1, of any signed 32-bit number; no other refusal than 1. */
 garantepo_value garantepo_residue(uint64_t p, int32_t n);
 
-/* The balanced value of a residue c: c where 2c is at most p, and c - p otherwise. It refuses 1, then
- * 6 for a c of p or more. */
+/* The balanced value of a residue c: c as long as 2c does not pass p, beyond that c - p. */
 garantepo_balance garantepo_balanced(uint64_t p, uint64_t c);
+
+/* ---- Monomial words -------------------------------------------------------------------------- */
 
 /* The monomial word of four exponents; 4 for an exponent above 32,767. */
 garantepo_value garantepo_pack(uint64_t x, uint64_t y, uint64_t z, uint64_t t);

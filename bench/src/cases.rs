@@ -2,21 +2,22 @@
 
 use crate::contest::{Operation, Task};
 use crate::inputs::{dense_power, disjoint_sum, minus_one, product, sparse, sparse_below, Rng, P};
+use garantepo::limit;
 
 /// A task and what a reader calls it.
 pub struct Case {
     pub title: String,
-    /// R-5 asks for a speed here.
-    pub of_r5: bool,
+    /// RULES Speed asks for a speed here.
+    pub asked: bool,
     pub task: Task,
 }
 
 /// The most terms of an input or a quotient room.
-const FULL: usize = 4_096;
+const FULL: usize = limit::INPUT_TERMS;
 
-/// R-5's inputs first, then those of other shapes.
+/// The inputs of RULES Speed first, then those of other shapes.
 pub fn tasks() -> Vec<Case> {
-    let mut cases = of_r5();
+    let mut cases = of_the_rule();
     cases.extend(long_by_short());
     cases.extend(with_remainder());
     cases.extend(dense());
@@ -25,7 +26,7 @@ pub fn tasks() -> Vec<Case> {
 }
 
 /// Two random factors of 64 terms, and their product divided by one of them.
-fn of_r5() -> Vec<Case> {
+fn of_the_rule() -> Vec<Case> {
     let rng = &mut Rng::new(5);
     let (a, b) = (sparse(rng, 64), sparse(rng, 64));
     let f = product(&a, &b);
@@ -39,7 +40,7 @@ fn of_r5() -> Vec<Case> {
             let task = divide(operation, &f, &b, [room, 0]);
             cases.push(Case {
                 title,
-                of_r5: operation == Operation::Division,
+                asked: operation == Operation::Division,
                 task,
             });
         }
@@ -138,7 +139,7 @@ fn sizes() -> impl Iterator<Item = usize> {
 fn case(title: &str, task: Task) -> Case {
     Case {
         title: title.to_string(),
-        of_r5: false,
+        asked: false,
         task,
     }
 }

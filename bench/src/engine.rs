@@ -1,7 +1,7 @@
 //! The engine as a contender.
 
 use crate::contest::{Contender, Operation, Task};
-use garantepo::Report;
+use garantepo::{limit, Report};
 
 pub struct Engine<'a> {
     task: &'a Task,
@@ -12,14 +12,14 @@ pub struct Engine<'a> {
 
 impl<'a> Engine<'a> {
     pub fn new(task: &'a Task) -> Self {
-        let least = match task.operation {
-            Operation::Product => 2 * task.first.len().min(task.second.len()),
-            _ => 4 * task.rooms[0],
+        let terms = match task.operation {
+            Operation::Product => task.first.len().min(task.second.len()) / 2,
+            _ => task.rooms[0],
         };
         Engine {
             task,
             outputs: task.rooms.map(|terms| vec![0; 2 * terms]),
-            work: vec![0; least],
+            work: vec![0; limit::WORK_WORDS * terms],
             report: Report::default(),
         }
     }

@@ -1,6 +1,7 @@
 //! The benchmark: the engine against a merging division and against FLINT, in one process.
 //!
-//! `bench DATE` writes docs/BENCHMARK.md and docs/growth.svg under the current folder.
+//! `bench DATE` writes docs/BENCHMARK.md, docs/growth.svg and the table of README.md under the current
+//! folder.
 
 mod cases;
 mod clock;
@@ -10,6 +11,7 @@ mod flint;
 mod inputs;
 mod merging;
 mod plot;
+mod readme;
 mod report;
 
 use cases::Case;
@@ -38,12 +40,13 @@ fn main() {
     let [products, divisions] = [products, divisions].map(|points| {
         let row = |(n, times): (usize, Times)| Row {
             title: format!("n = {n}"),
-            of_r5: false,
+            asked: false,
             times,
         };
         points.into_iter().map(row).collect::<Vec<_>>()
     });
     report::write("docs/BENCHMARK.md", &date, &tasks, &products, &divisions);
+    readme::write("README.md", &date, &tasks);
 }
 
 fn row(case: Case) -> Row {
@@ -51,7 +54,7 @@ fn row(case: Case) -> Row {
     print(&case.title, times);
     Row {
         title: case.title,
-        of_r5: case.of_r5,
+        asked: case.asked,
         times,
     }
 }

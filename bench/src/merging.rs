@@ -3,6 +3,7 @@
 //! same for the same arrays; its two lists are its own.
 
 use crate::contest::{Contender, Operation, Task};
+use garantepo::limit;
 
 /// A monomial word and a coefficient.
 type Term = (u64, u64);
@@ -164,7 +165,8 @@ fn check_all(p: u64, f: &[u64], g: &[u64], q: &[u64], r: &[u64]) -> Result<(), u
     if all.iter().any(|words| words.len() % 2 == 1) {
         return Err(2);
     }
-    if [f, g, q].iter().any(|words| words.len() > 2 * 4_096) || r.len() > 2 * 16_777_216 {
+    let too_long = |words: &&[u64]| words.len() > 2 * limit::INPUT_TERMS;
+    if [f, g, q].iter().any(too_long) || r.len() > 2 * limit::ROOM_TERMS {
         return Err(3);
     }
     if let Some(number) = [f, g].iter().filter_map(|a| term_fault(p, a)).min() {
@@ -195,7 +197,7 @@ fn term_fault(p: u64, words: &[u64]) -> Option<u64> {
 }
 
 fn is_modulus(p: u64) -> bool {
-    if !(2..=2_147_483_647).contains(&p) {
+    if !(2..=limit::LARGEST_MODULUS).contains(&p) {
         return false;
     }
     let mut d = 2;

@@ -9,15 +9,31 @@ use std::fs;
 /// One line of a table: what was done, and how long each contender took.
 pub struct Row {
     pub title: String,
-    pub of_r5: bool,
+    /// RULES Speed asks for a speed here.
+    pub asked: bool,
     pub times: Times,
+}
+
+impl Row {
+    /// The peers that are quicker, and how many times as long the engine takes.
+    pub fn quicker_peers(&self) -> Vec<(&'static str, f64)> {
+        let peers = [
+            ("merging", self.times.merging),
+            ("FLINT", Some(self.times.flint)),
+        ];
+        peers
+            .iter()
+            .filter_map(|&(peer, measure)| Some((peer, 1.0 / measure?.ratio)))
+            .filter(|&(_, factor)| factor > 1.0)
+            .collect()
+    }
 }
 
 pub fn write(path: &str, date: &str, tasks: &[Row], products: &[Row], divisions: &[Row]) {
     let mut page = introduction(date);
     page += "\n## Tasks\n\n";
     page += &table("task", tasks);
-    page += &of_r5(tasks);
+    page += &of_the_rule(tasks);
     page += &slower(tasks);
     page += "\n## Growth\n\n![time against terms](growth.svg)\n\nProducts of n by n terms:\n\n";
     page += &table("size", products);
@@ -36,7 +52,7 @@ fn introduction(date: &str) -> String {
         .replace("{flint}", &flint::version())
 }
 
-fn machine() -> String {
+pub fn machine() -> String {
     let info = fs::read_to_string("/proc/cpuinfo").unwrap_or_default();
     let models: Vec<&str> = info
         .lines()
@@ -53,9 +69,8 @@ fn table(first_column: &str, rows: &[Row]) -> String {
          |---|---|---|---|---|---|\n"
     );
     for Row { title, times, .. } in rows {
-        let none = "–".to_string();
-        let (merging, merging_ratio) = times.merging.map_or((none.clone(), none), cells);
-        let (flint, flint_ratio) = cells(times.flint);
+        let (merging, merging_ratio) = cells(times.merging);
+        let (flint, flint_ratio) = cells(Some(times.flint));
         let engine = readable(times.engine.time);
         writeln!(
             text,
@@ -66,12 +81,16 @@ fn table(first_column: &str, rows: &[Row]) -> String {
     text
 }
 
-fn cells(measure: Measure) -> (String, String) {
-    (readable(measure.time), format!("{:.2}", measure.ratio))
+/// The time and the ratio of a contender, if it has been at this task.
+pub fn cells(measure: Option<Measure>) -> (String, String) {
+    match measure {
+        Some(Measure { time, ratio }) => (readable(time), format!("{ratio:.2}")),
+        None => ("–".to_string(), "–".to_string()),
+    }
 }
 
 /// Seconds with three figures.
-fn readable(seconds: f64) -> String {
+pub fn readable(seconds: f64) -> String {
     let (number, unit) = match seconds {
         s if s < 1e-3 => (s * 1e6, "µs"),
         s if s < 1.0 => (s * 1e3, "ms"),
@@ -85,12 +104,13 @@ fn readable(seconds: f64) -> String {
     format!("{number:.decimals$} {unit}")
 }
 
-/// What R-5 asks for, and what was measured.
-fn of_r5(rows: &[Row]) -> String {
+/// What RULES Speed asks for, and what was measured.
+fn of_the_rule(rows: &[Row]) -> String {
     let mut text =
-        "\nR-5 asks that the engine is at least twice as quick as merging:\n\n".to_string();
-    for row in rows.iter().filter(|row| row.of_r5) {
-        let factor = row.times.merging.expect("R-5 is about division").ratio;
+        "\nRULES Speed asks that merging takes at least twice as long as the engine:\n\n"
+            .to_string();
+    for row in rows.iter().filter(|row| row.asked) {
+        let factor = row.times.merging.expect("the rule is about division").ratio;
         let met = if factor >= 2.0 { "met" } else { "not met" };
         writeln!(text, "- {}: {factor:.2}, {met}", row.title).expect("a string");
     }
@@ -100,13 +120,10 @@ fn of_r5(rows: &[Row]) -> String {
 /// Where a peer is quicker, said in words.
 fn slower(rows: &[Row]) -> String {
     let mut slower = Vec::new();
-    for Row { title, times, .. } in rows {
-        let peers = [("merging", times.merging), ("FLINT", Some(times.flint))];
-        for (peer, measure) in peers {
-            if let Some(ratio) = measure.map(|m| m.ratio).filter(|&ratio| ratio < 1.0) {
-                let factor = 1.0 / ratio;
-                slower.push(format!("- {title}: {factor:.2} times as long as {peer}"));
-            }
+    for row in rows {
+        for (peer, factor) in row.quicker_peers() {
+            let title = &row.title;
+            slower.push(format!("- {title}: {factor:.2} times as long as {peer}"));
         }
     }
     if slower.is_empty() {

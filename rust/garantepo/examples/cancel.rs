@@ -2,12 +2,12 @@
 //! divides both, the reduced fraction is printed; otherwise which of "no" and "no room" was met. The
 //! same program in C is `examples/cancel.c`.
 
-use garantepo::{balanced, divides, pack, reply, residue, unpack, Report};
+use garantepo::{balanced, divides, limit, pack, reply, residue, unpack, Report};
 
 const P: u64 = 101;
 
-/// The most terms that a quotient room may have.
-const ROOM: usize = 4_096;
+/// The longest quotient room there is.
+const ROOM: usize = limit::INPUT_TERMS;
 
 /// A coefficient and the exponents of x, y, z and t.
 type Term = (i32, [u64; 4]);
@@ -66,7 +66,7 @@ fn cancel(upper: &[Term], lower: &[Term], factor: &[Term]) {
 /// The quotient, or the report where the divide test didn't say yes.
 fn divide_out(f: &[u64], factor: &[u64]) -> Result<Vec<u64>, Report> {
     let mut quotient = vec![0; 2 * ROOM];
-    let mut work = vec![0; 4 * ROOM];
+    let mut work = vec![0; limit::WORK_WORDS * ROOM];
     let report = divides(P, f, factor, &mut quotient, &mut work);
     if report.number != reply::DONE {
         return Err(report);
@@ -77,7 +77,7 @@ fn divide_out(f: &[u64], factor: &[u64]) -> Result<Vec<u64>, Report> {
 
 fn trouble(which: &str, met: Report) -> String {
     match met.number {
-        reply::NO => format!("no: the factor does not divide the {which} polynomial"),
+        reply::NOT_DIVISIBLE => format!("no: the factor does not divide the {which} polynomial"),
         reply::NO_ROOM => {
             format!("no room: {ROOM} terms cannot hold a quotient of the {which} polynomial")
         }

@@ -3,8 +3,8 @@
 use crate::raw;
 use crate::report::Report;
 
-/// Whether `g` divides `f` modulo p, with the quotient in the room `q`; the work array has at least 4
-/// words for each term of quotient room.
+/// Whether `g` divides `f` modulo p, with the quotient in the room `q`; for each term that `q` can
+/// hold the work array has 4 words or more.
 pub fn divides(p: u64, f: &[u64], g: &[u64], q: &mut [u64], work: &mut [u64]) -> Report {
     // SAFETY: all four are borrowed for the whole call, which only reads `f` and `g`; `q` and `work`
     // are borrowed alone, so they overlap nothing.

@@ -3,8 +3,8 @@
 use crate::raw;
 use crate::report::Report;
 
-/// Divides `f` by `g` modulo p: the quotient in the room `q`, the remainder in the room `r`; the
-/// work array has at least 4 words for each term of quotient room.
+/// Divides `f` by `g` modulo p: the quotient in the room `q`, the remainder in the room `r`; for each
+/// term that `q` can hold the work array has 4 words or more.
 pub fn divide(
     p: u64,
     f: &[u64],

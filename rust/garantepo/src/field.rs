@@ -42,7 +42,7 @@ pub fn residue(p: u64, n: i32) -> Value {
     unsafe { raw::garantepo_residue(p, n) }
 }
 
-/// The balanced value of a residue c: c where 2c is at most p, and c − p otherwise.
+/// The balanced value of a residue c: c as long as 2c doesn't pass p, beyond that c − p.
 pub fn balanced(p: u64, c: u64) -> Balance {
     // SAFETY: only numbers are passed.
     unsafe { raw::garantepo_balanced(p, c) }

@@ -6,10 +6,11 @@
 //! lends every array: inputs, rooms for results, and the work array of a product or a division.
 //!
 //! No call has a precondition. What is malformed is refused with a number, see [`reply`], and then
-//! nothing is changed.
+//! nothing is changed. How large things may be is told in [`limit`], and every rule in
+//! `docs/RULES.md`.
 //!
-//! The engine is a static library: `rt staticlib host` makes `target/staticlib/libhost.a`, which
-//! `build.rs` links. A copy of it elsewhere is named by the variable `GARANTEPO_LIB`, a folder.
+//! The engine is a static library: `rt staticlib garantepo` makes `target/staticlib/libgarantepo.a`,
+//! which `build.rs` links. A copy of it elsewhere is named by the variable `GARANTEPO_LIB`, a folder.
 //!
 //! # Why these calls are safe
 //!
@@ -23,6 +24,7 @@ pub mod difference;
 pub mod divide_test;
 pub mod division;
 pub mod field;
+pub mod limit;
 pub mod packing;
 pub mod product;
 pub mod profile;
@@ -39,7 +41,7 @@ pub use division::divide;
 pub use field::{balanced, field_inverse, field_product, field_sum, residue, Balance, Value};
 pub use packing::{pack, unpack, Exponents};
 pub use product::product;
-pub use profile::{profile, Profile, Profiled};
+pub use profile::{profile_of, Profile, Profiled};
 pub use report::Report;
 pub use run::run;
 pub use sum::sum;

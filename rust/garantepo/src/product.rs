@@ -3,8 +3,8 @@
 use crate::raw;
 use crate::report::Report;
 
-/// The product of `a` and `b` modulo p, in the room `out`; the work array has at least 4 words for
-/// each term of the shorter factor.
+/// The product of `a` and `b` modulo p, in the room `out`; for each term of the factor that has fewer
+/// the work array has 4 words or more.
 pub fn product(p: u64, a: &[u64], b: &[u64], out: &mut [u64], work: &mut [u64]) -> Report {
     // SAFETY: all four are borrowed for the whole call, which only reads `a` and `b`; `out` and
     // `work` are borrowed alone, so they overlap nothing.

@@ -21,7 +21,7 @@ pub struct Profiled {
 }
 
 /// The profile of a polynomial modulo p.
-pub fn profile(p: u64, a: &[u64]) -> Profiled {
+pub fn profile_of(p: u64, a: &[u64]) -> Profiled {
     // SAFETY: `a` is borrowed for the whole call, which only reads it.
     unsafe { raw::garantepo_profile_of(p, a.as_ptr(), a.len()) }
 }

@@ -5,7 +5,7 @@ use std::fmt;
 #[derive(Clone, Copy, Debug, PartialEq, Eq, PartialOrd, Ord)]
 pub enum Kind {
     Check,
-    Profile,
+    ProfileOf,
     Run,
     Sum,
     Difference,
@@ -24,7 +24,7 @@ pub enum Kind {
 impl Kind {
     pub const ALL: [Kind; 15] = [
         Kind::Check,
-        Kind::Profile,
+        Kind::ProfileOf,
         Kind::Run,
         Kind::Sum,
         Kind::Difference,
@@ -43,7 +43,7 @@ impl Kind {
     /// The operands that are input polynomials.
     pub fn inputs(self) -> &'static [usize] {
         match self {
-            Kind::Check | Kind::Profile | Kind::Run => &[1],
+            Kind::Check | Kind::ProfileOf | Kind::Run => &[1],
             Kind::Sum | Kind::Difference | Kind::Product | Kind::Divide | Kind::Divides => &[1, 2],
             _ => &[],
         }

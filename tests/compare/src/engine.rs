@@ -23,7 +23,7 @@ fn numbers(call: &Call, lent: &mut [Lent; 5]) -> Vec<u64> {
     let p = call.p;
     match call.kind {
         Kind::Check => report(garantepo::check(p, a)),
-        Kind::Profile => profiled(garantepo::profile(p, a)),
+        Kind::ProfileOf => profiled(garantepo::profile_of(p, a)),
         Kind::Run => part(a, garantepo::run(a, call.numbers[0])),
         Kind::Sum => report(garantepo::sum(p, a, b, c)),
         Kind::Difference => report(garantepo::difference(p, a, b, c)),

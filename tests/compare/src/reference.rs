@@ -16,7 +16,7 @@ fn numbers(call: &Call, [a, b, c, d, work]: &mut [Vec<u64>; 5]) -> Vec<u64> {
     let p = call.p;
     match call.kind {
         Kind::Check => report(second::check::check(p, a)),
-        Kind::Profile => profiled(second::profile::profile(p, a)),
+        Kind::ProfileOf => profiled(second::profile::profile_of(p, a)),
         Kind::Run => {
             let part = second::run::run(a, call.numbers[0]);
             vec![part.start as u64, part.end as u64]

@@ -1,4 +1,4 @@
-//! The sheet of examples of document 01, every row.
+//! The sheet of examples, every row: RULES Sheet.
 
 use crate::call::{Call, Kind};
 use crate::compare::expect;

@@ -57,7 +57,7 @@ impl Tally {
     }
 }
 
-/// Every number with every operand that document 01 lets a call give.
+/// Every number with every operand that docs/RULES.md lets a call give.
 fn possible(kind: Kind) -> Vec<(Kind, u64, u64)> {
     let mut all = vec![(kind, 0, 0)];
     all.extend(other_stops(kind).iter().map(|&number| (kind, number, 0)));
@@ -85,7 +85,7 @@ fn possible(kind: Kind) -> Vec<(Kind, u64, u64)> {
 /// The numbers without an operand that a call has beside 0 and 1.
 fn other_stops(kind: Kind) -> &'static [u64] {
     match kind {
-        Kind::Check | Kind::Profile | Kind::Residue => &[],
+        Kind::Check | Kind::ProfileOf | Kind::Residue => &[],
         Kind::Run => &[EMPTY],
         Kind::Sum | Kind::Difference => &[10],
         Kind::Product => &[9, 10],

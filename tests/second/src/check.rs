@@ -3,7 +3,7 @@
 use crate::refusals::Faults;
 use crate::report::{done, Report};
 
-/// Refuses 1 to 6; else reply 0, and "the check of a polynomial gives its term count first".
+/// RULES Check: a refusal 1 to 6, or the number of terms.
 pub fn check(p: u64, a: &[u64]) -> Report {
     let mut faults = Faults::default();
     faults.modulus(p);

@@ -5,8 +5,7 @@ use crate::refusals::{Faults, ROOM_TERMS};
 use crate::report::{done, stopped, Report};
 use crate::rooms::{clear, fill, places};
 
-/// "Sum and difference give 10 by the same rule": when the true difference, after cancellation, has
-/// more terms than the room. They need no work array.
+/// RULES Sum and difference: 10 where the room can't hold what is left when terms have cancelled.
 pub fn difference(p: u64, a: &[u64], b: &[u64], room: &mut [u64]) -> Report {
     if let Some(refusal) = refusal(p, a, b, room) {
         return refusal;

@@ -1,5 +1,6 @@
 //! The divide test.
 
+use crate::division::least_work;
 use crate::polynomial::{
     divide_term, greatest, largest_exponents, lead, multiply, over, read, subtract, times,
     Polynomial,
@@ -25,18 +26,18 @@ pub fn divides(p: u64, f: &[u64], g: &[u64], q: &mut [u64], work: &mut [u64]) ->
     }
 }
 
-/// "The same walk with other stops." "Zero is divided by every nonzero g, with quotient zero."
+/// The walk of RULES Divide test. Zero ends it at once, with quotient zero.
 fn exact_quotient(p: u64, f: &Polynomial, g: &Polynomial, room: usize) -> Result<Polynomial, u64> {
     let mut remains = f.clone();
     let mut quotient = Polynomial::new();
     while let Some(term) = greatest(&remains) {
-        // "A greatest term that g's lead monomial doesn't divide gives 12."
+        // 12 where the lead monomial doesn't divide.
         let (m, c) = divide_term(p, term, lead(g)).ok_or(12u64)?;
-        // "A quotient term whose exponent of some v plus M(g, v) is over M(f, v) gives 12."
+        // 12 where the quotient term times g would have a higher degree than f, in some letter.
         if over(multiply(m, largest_exponents(g)), largest_exponents(f)) {
             return Err(12);
         }
-        // "Otherwise 10 if the room is full."
+        // 10 where no place is left.
         if quotient.len() == room {
             return Err(10);
         }
@@ -53,8 +54,7 @@ fn refusal(p: u64, f: &[u64], g: &[u64], q: &[u64], work: &[u64]) -> Option<Repo
     faults.input(p, 2, g);
     faults.room(3, q, INPUT_TERMS);
     faults.divisor(g);
-    // Work array: "4 words for each term of quotient room".
-    faults.work(work, 4 * places(q));
+    faults.work(work, least_work(q));
     faults.least()
 }
 

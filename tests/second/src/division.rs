@@ -40,8 +40,8 @@ pub struct Walk {
     pub trouble: Option<u64>,
 }
 
-/// "Begin with f. While something remains, take its greatest term." "The first trouble met in this
-/// falling order is the answer." The divisor is not zero.
+/// The walk of RULES Division: the greatest term of what remains is handled until nothing remains, or
+/// until trouble ends the walk. The divisor is not zero.
 pub fn walk(p: u64, f: &Polynomial, g: &Polynomial, q_room: usize, r_room: usize) -> Walk {
     let mut walk = Walk {
         remains: f.clone(),
@@ -50,7 +50,6 @@ pub fn walk(p: u64, f: &Polynomial, g: &Polynomial, q_room: usize, r_room: usize
         trouble: None,
     };
     while let Some(term) = greatest(&walk.remains) {
-        // "If g's lead monomial divides it", the quotient gets "the term divided by g's lead term".
         walk.trouble = match divide_term(p, term, lead(g)) {
             Some(quotient_term) => walk.put_in_quotient(p, quotient_term, g, q_room),
             None => walk.move_to_remainder(term, r_room),
@@ -63,8 +62,8 @@ pub fn walk(p: u64, f: &Polynomial, g: &Polynomial, q_room: usize, r_room: usize
 }
 
 impl Walk {
-    /// "That quotient term times g is subtracted. First it is tried: 9 if its exponent of some v
-    /// plus M(g, v) is over 32,767; otherwise 10 if the quotient room is full."
+    /// 9 where the quotient term times g would have too big an exponent, then 10 where no place is
+    /// left.
     fn put_in_quotient(
         &mut self,
         p: u64,
@@ -87,7 +86,7 @@ impl Walk {
         None
     }
 
-    /// "The term moves to the remainder, or 11 if that room is full."
+    /// 11 where no place is left.
     fn move_to_remainder(&mut self, (m, c): Term, room: usize) -> Option<u64> {
         if self.remainder.len() == room {
             return Some(11);
@@ -98,7 +97,7 @@ impl Walk {
     }
 }
 
-/// Work array: "4 words for each term of quotient room".
+/// RULES Work, of division and divide test.
 pub fn least_work(q: &[u64]) -> usize {
     4 * places(q)
 }

@@ -1,20 +1,20 @@
 //! The single field operations, and the arithmetic modulo p that the other calls use.
 
-/// A number of the table of replies and a value; "the value beside a refusal is 0".
+/// RULES Single numbers: a reply and a value, 0 where it is refused.
 #[derive(Clone, Copy, Debug, PartialEq, Eq)]
 pub struct Value {
     pub number: u64,
     pub value: u64,
 }
 
-/// A balanced value is "a signed 32-bit number".
+/// The same with the value of RULES Balanced.
 #[derive(Clone, Copy, Debug, PartialEq, Eq)]
 pub struct Balance {
     pub number: u64,
     pub value: i32,
 }
 
-/// "p is a prime from 2 to 2,147,483,647": no d from 2 on whose square is at most p divides it.
+/// RULES Limits: p is in range, and no d from 2 on whose square is at most p divides it.
 pub fn is_modulus(p: u64) -> bool {
     if !(2..=2_147_483_647).contains(&p) {
         return false;
@@ -29,7 +29,7 @@ pub fn is_modulus(p: u64) -> bool {
     true
 }
 
-/// "The single field operations refuse 1 first, then 6 for an operand of p or more."
+/// RULES Field: 1 before 6.
 fn refusal(p: u64, operands: &[u64]) -> Option<u64> {
     if !is_modulus(p) {
         return Some(1);
@@ -58,13 +58,13 @@ pub fn product(p: u64, a: u64, b: u64) -> Value {
     answer(refusal(p, &[a, b]), || a * b % p)
 }
 
-/// It refuses 6 also "for the inverse of 0".
+/// 0 has no inverse, which is 6 too.
 pub fn inverse(p: u64, a: u64) -> Value {
     let zero = if a == 0 { Some(6) } else { None };
     answer(refusal(p, &[a]).or(zero), || inverse_modulo(p, a))
 }
 
-/// The balanced value "is c where 2c is at most p, and c − p otherwise".
+/// RULES Balanced.
 pub fn balanced(p: u64, c: u64) -> Balance {
     if let Some(number) = refusal(p, &[c]) {
         return Balance { number, value: 0 };
@@ -81,7 +81,7 @@ pub fn balanced(p: u64, c: u64) -> Balance {
     }
 }
 
-/// Back: "any signed 32-bit number gives its residue from 0 to p−1, and only reply 1 can refuse it".
+/// The way back of RULES Balanced.
 pub fn residue(p: u64, n: i32) -> Value {
     answer(refusal(p, &[]), || i64::from(n).rem_euclid(p as i64) as u64)
 }

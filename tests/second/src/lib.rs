@@ -1,8 +1,8 @@
-//! The second program: every call of document 01, written a second time to compare the engine with.
+//! The second program: every call of docs/RULES.md, written a second time to compare the engine with.
 //!
 //! A polynomial is a map from four exponents to a coefficient. All arithmetic is the schoolbook's,
-//! and each reply rule stands where document 01 puts it, in its words. Nothing is done for speed,
-//! and nothing is taken from the engine: what both have in common is the document.
+//! and each rule is cited where it is followed. Nothing is done for speed, and nothing is taken from
+//! the engine: what both have in common is that page.
 
 pub mod check;
 pub mod difference;

@@ -2,24 +2,24 @@
 
 use crate::polynomial::Monomial;
 
-/// "Each exponent is 0 to 32,767."
+/// RULES Limits.
 pub const LARGEST_EXPONENT: u64 = 32_767;
 
-/// A number of the table of replies and a value; "the value beside a refusal is 0".
+/// RULES Single numbers: a reply and a value, 0 where it is refused.
 #[derive(Clone, Copy, Debug, PartialEq, Eq)]
 pub struct Packed {
     pub number: u64,
     pub value: u64,
 }
 
-/// A number and four exponents, "four zeros" beside a refusal.
+/// The same with four exponents.
 #[derive(Clone, Copy, Debug, PartialEq, Eq)]
 pub struct Unpacked {
     pub number: u64,
     pub exponents: Monomial,
 }
 
-/// "Packing refuses 4 for an exponent above 32,767."
+/// RULES Packing.
 pub fn pack(m: Monomial) -> Packed {
     if m.iter().any(|&e| e > LARGEST_EXPONENT) {
         return Packed {
@@ -32,7 +32,7 @@ pub fn pack(m: Monomial) -> Packed {
     Packed { number: 0, value }
 }
 
-/// "And unpacking for a set guard bit."
+/// The way back of RULES Packing: a field with its guard bit is over the largest exponent.
 pub fn unpack(word: u64) -> Unpacked {
     let fields = [48, 32, 16, 0].map(|shift| (word >> shift) % 65_536);
     if fields.iter().any(|&e| e > LARGEST_EXPONENT) {

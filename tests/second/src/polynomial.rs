@@ -4,8 +4,8 @@ use crate::field::inverse_modulo;
 use crate::packing;
 use std::collections::BTreeMap;
 
-/// The exponents of x, y, z and t. Two arrays compare letter by letter from the front, which is
-/// "lexicographic order with x above y above z above t".
+/// The exponents of x, y, z and t. Two arrays compare letter by letter from the front, which is the
+/// lexicographic order of RULES Order.
 pub type Monomial = [u64; 4];
 
 /// The coefficient at each monomial that has one; a coefficient of 0 is never kept.
@@ -52,8 +52,7 @@ pub fn subtract(a: &mut Polynomial, p: u64, b: &Polynomial) {
     }
 }
 
-/// "The coefficient of the product at a monomial is the sum, modulo p, of all a·b whose monomials
-/// multiply to it."
+/// RULES Ring: every pair of terms adds to the coefficient at the product of their monomials.
 pub fn times(p: u64, a: &Polynomial, b: &Polynomial) -> Polynomial {
     let mut product = Polynomial::new();
     for (&m, &c) in a {
@@ -79,7 +78,7 @@ pub fn divide_term(p: u64, (n, d): Term, (m, c): Term) -> Option<Term> {
     divides(m, n).then(|| (quotient(n, m), d * inverse_modulo(p, c) % p))
 }
 
-/// M(a, v) for each letter v: "the largest exponent of letter v in a".
+/// RULES Largest: M(a, v) for each letter v, and 0 where a is zero.
 pub fn largest_exponents(a: &Polynomial) -> Monomial {
     let mut largest = [0; 4];
     for m in a.keys() {
@@ -99,7 +98,7 @@ pub fn multiply(m: Monomial, n: Monomial) -> Monomial {
     [m[0] + n[0], m[1] + n[1], m[2] + n[2], m[3] + n[3]]
 }
 
-/// "Monomial m divides n when each of m's four exponents is at most n's."
+/// RULES Divisibility: m divides n.
 pub fn divides(m: Monomial, n: Monomial) -> bool {
     (0..4).all(|v| m[v] <= n[v])
 }

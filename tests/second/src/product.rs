@@ -23,17 +23,15 @@ pub fn product(p: u64, a: &[u64], b: &[u64], room: &mut [u64], work: &mut [u64])
     }
 }
 
+/// RULES Product: zero, else 9 by the largest exponents, else 10 by the terms that are left.
 fn true_product(p: u64, a: &Polynomial, b: &Polynomial, room: usize) -> Result<Polynomial, u64> {
-    // "If either factor is zero, the product is zero."
     if a.is_empty() || b.is_empty() {
         return Ok(Polynomial::new());
     }
-    // "Else 9 exactly when M(a, v) + M(b, v) is over 32,767 for some v."
     let largest = multiply(largest_exponents(a), largest_exponents(b));
     if over(largest, [LARGEST_EXPONENT; 4]) {
         return Err(9);
     }
-    // "Else 10 exactly when the true product, after cancellation, has more terms than the room."
     let product = times(p, a, b);
     if product.len() > room {
         return Err(10);
@@ -41,7 +39,7 @@ fn true_product(p: u64, a: &Polynomial, b: &Polynomial, room: usize) -> Result<P
     Ok(product)
 }
 
-/// Work array: "at least 4 words for each term of the shorter factor".
+/// RULES Work, of the product.
 pub fn least_work(a: &[u64], b: &[u64]) -> usize {
     4 * places(a).min(places(b))
 }

@@ -4,7 +4,7 @@ use crate::check::check;
 use crate::polynomial::{largest_exponents, largest_total, read, Monomial};
 use crate::report::Report;
 
-/// "Term count, the four largest exponents as an array in one record, and the largest total degree."
+/// The numbers of RULES Profile, which are all 0 beside a refusal.
 #[derive(Clone, Copy, Debug, Default, PartialEq, Eq)]
 pub struct Profile {
     pub terms: u64,
@@ -12,9 +12,8 @@ pub struct Profile {
     pub total: u64,
 }
 
-/// "A report with the term count first stands beside it. It refuses 1 to 6 as above, with every
-/// number in its record 0."
-pub fn profile(p: u64, a: &[u64]) -> (Report, Profile) {
+/// The report is that of the check.
+pub fn profile_of(p: u64, a: &[u64]) -> (Report, Profile) {
     let report = check(p, a);
     if report.number != 0 {
         return (report, Profile::default());

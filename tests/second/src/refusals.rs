@@ -1,14 +1,14 @@
-//! The refusals 1 to 8: "the lowest number wins, then the lowest operand, then the lowest term".
+//! The refusals 1 to 8, and RULES First refusal.
 //!
 //! A call notes every fault it has, in any order, and the least one is its answer.
 
 use crate::field;
 use crate::report::Report;
 
-/// "An input polynomial and a quotient room have at most 4,096 terms."
+/// RULES Limits, of an input and of a quotient room.
 pub const INPUT_TERMS: usize = 4_096;
 
-/// "The room for a sum, difference, product or remainder has at most 16,777,216 terms."
+/// RULES Limits, of any other room.
 pub const ROOM_TERMS: usize = 16_777_216;
 
 /// The top bit of each sixteen.
@@ -23,7 +23,7 @@ pub struct Faults {
 }
 
 impl Faults {
-    /// 1: "p is not a prime in its range".
+    /// 1, which blames nobody.
     pub fn modulus(&mut self, p: u64) {
         self.note(!field::is_modulus(p), (1, 0, 0));
     }
@@ -32,7 +32,6 @@ impl Faults {
     pub fn input(&mut self, p: u64, operand: u64, words: &[u64]) {
         self.shape(operand, words);
         for (i, record) in words.chunks_exact(2).enumerate() {
-            // 6: "a coefficient is 0 or at least p".
             let bad = record[1] == 0 || record[1] >= p;
             self.note(bad, (6, operand, i as u64));
         }
@@ -43,9 +42,8 @@ impl Faults {
         self.room(operand, words, INPUT_TERMS);
         let monomials: Vec<u64> = words.chunks_exact(2).map(|record| record[0]).collect();
         for (i, word) in monomials.iter().enumerate() {
-            // 4: "a guard bit is set".
             self.note(word & GUARD_BITS != 0, (4, operand, i as u64));
-            // 5: "a monomial is not below the one before"; the index is the later one's.
+            // Of two neighbours the second is named.
             let rises = i > 0 && *word >= monomials[i - 1];
             self.note(rises, (5, operand, i as u64));
         }
@@ -53,18 +51,16 @@ impl Faults {
 
     /// 2 and 3 of an output, which an input has in common with it.
     pub fn room(&mut self, operand: u64, words: &[u64], most_terms: usize) {
-        // 2: "an input or output slice has odd length".
         self.note(words.len() % 2 == 1, (2, operand, 0));
-        // 3: "an input or room is over its number of terms".
         self.note(words.len() / 2 > most_terms, (3, operand, 0));
     }
 
-    /// 7: "the divisor is zero", with operand 2.
+    /// 7, which blames operand 2.
     pub fn divisor(&mut self, g: &[u64]) {
         self.note(g.is_empty(), (7, 2, 0));
     }
 
-    /// 8: "the work array is too short", with operand 5.
+    /// 8, which blames operand 5.
     pub fn work(&mut self, work: &[u64], least: usize) {
         self.note(work.len() < least, (8, 5, 0));
     }

@@ -1,4 +1,4 @@
-//! "A report holds the number, an operand, a term index and two term counts."
+//! RULES Report.
 
 #[derive(Clone, Copy, Debug, Default, PartialEq, Eq)]
 pub struct Report {
@@ -9,7 +9,7 @@ pub struct Report {
     pub second: u64,
 }
 
-/// Reply 0 carries operand 0, and the counts "are the terms of the first and second output".
+/// Reply 0, which alone has counts.
 pub fn done(first: usize, second: usize) -> Report {
     Report {
         first: first as u64,
@@ -18,7 +18,7 @@ pub fn done(first: usize, second: usize) -> Report {
     }
 }
 
-/// "Replies 1 and 9 to 12 carry operand 0", and "counts are 0 except in reply 0".
+/// One of 9 to 12, which blame nobody.
 pub fn stopped(number: u64) -> Report {
     Report {
         number,

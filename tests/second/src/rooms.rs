@@ -1,9 +1,9 @@
-//! The last column of the table of replies: what outputs and work hold afterwards.
+//! What outputs and work hold afterwards, the last column of RULES Replies.
 
 use crate::packing;
 use crate::polynomial::Polynomial;
 
-/// "Result terms, then zero words to the end."
+/// After reply 0: the terms of the result, and zero words behind them.
 pub fn fill(room: &mut [u64], result: &Polynomial) {
     clear(room);
     for (record, (m, &c)) in room.chunks_exact_mut(2).zip(result.iter().rev()) {
@@ -12,7 +12,7 @@ pub fn fill(room: &mut [u64], result: &Polynomial) {
     }
 }
 
-/// "All zero."
+/// After 9 to 12, and of the work after 0.
 pub fn clear(words: &mut [u64]) {
     words.fill(0);
 }

@@ -4,9 +4,7 @@ use crate::packing::unpack;
 use crate::refusals::Faults;
 use std::ops::Range;
 
-/// The words of the terms whose exponent of x is the power. "If no term has that power (any power
-/// above 32,767 included), or the slice fails 2, 3, 4 or 5, the part is the empty one at the front
-/// of the slice."
+/// RULES Run: where the terms with this exponent of x are, in words.
 pub fn run(a: &[u64], power: u64) -> Range<usize> {
     let mut faults = Faults::default();
     faults.shape(1, a);

@@ -15,7 +15,7 @@ use crate::rng::Rng;
 /// A call without a fault put into it, whatever its reply may be.
 pub fn plain(rng: &mut Rng, moduli: &Moduli, kind: Kind) -> Call {
     match kind {
-        Kind::Check | Kind::Profile => services::on_polynomial(rng, moduli, kind),
+        Kind::Check | Kind::ProfileOf => services::on_polynomial(rng, moduli, kind),
         Kind::Run => services::run(rng, moduli),
         Kind::Sum | Kind::Difference => sums::call(rng, moduli, kind),
         Kind::Product => product::call(rng, moduli),
