@@ -39,7 +39,7 @@ use Rattle.judges.specs.Judges.{testJudges, walkBy}
 use Rattle.judges.specs.Stops.{StoppedAt, TestDue}
 use Rattle.walk.proofs.Runs.{divisor-terms}
 use Rattle.division.specs.Division.{testRules, testWalk, testOf}
-use Rattle.division.proofs.Accepted.{Walkable, rules-walkable}
+use Rattle.division.proofs.Walkable.{Walkable, rules-walkable}
 use Rattle.division.proofs.test.divides.Reads as call
 use Rattle.claims.specs.Demands.{P, Afterwards, front, lead, Factor, termCount}
 use Rattle.claims.proofs.Walks.{TestSays, test-says}

@@ -44,7 +44,7 @@ use Rattle.judges.specs.Judges.{divisionJudges, walkBy}
 use Rattle.judges.specs.Stops.{StoppedAt, DivisionDue}
 use Rattle.walk.proofs.Runs.{divisor-terms}
 use Rattle.division.specs.Division.{lastRules, divideRules, divisionWalk, divideOf}
-use Rattle.division.proofs.Accepted.{Walkable, rules-walkable}
+use Rattle.division.proofs.Walkable.{Walkable, rules-walkable}
 use Rattle.division.proofs.division.divide.Reads as call
 use Rattle.claims.specs.Demands.{P, Afterwards, front, lead, Pair}
 use Rattle.claims.proofs.Walks.{DivisionSays, division-says}

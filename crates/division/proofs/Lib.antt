@@ -1,4 +1,4 @@
 -- Laws of division.
-pub mod Accepted
+pub mod Walkable
 pub mod WalkedRooms
 pub mod Determined

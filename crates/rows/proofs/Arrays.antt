@@ -19,7 +19,7 @@ use lib.ListN.{length, getD, take, drop, replicate, length-append, length-replic
 use lib.Seq.{drop-cons, drop-length}
 use borrow.Author.Tests.{eq-eqb, ne-eqb}
 use Rattle.claims.specs.Sheet.{sameWords}
-use Rattle.rows.specs.Cases.{dirt, lent, AsLent, followed}
+use Rattle.rows.specs.Cases.{dirt, allDirt, AsLent, followed}
 
 -- What an array has to hold
 
@@ -89,18 +89,18 @@ agree-all s e i same h a =
 
 -- Arrays that are lent
 
-taken-lent : (n m : ℕ) → n ≤ m → take n (lent m) ≡ lent n
-unfolding lent
+taken-lent : (n m : ℕ) → n ≤ m → take n (allDirt m) ≡ allDirt n
+unfolding allDirt
 taken-lent zero m h = refl
 taken-lent (suc n) zero h = absurd (omega arith)
 taken-lent (suc n) (suc m) h = ap (λ l. dirt ∷ l) (taken-lent n m (le-of-suc-le-suc h))
 
-pub lent-long : (n : ℕ) → length (lent n) ≡ n
-unfolding lent
+pub lent-long : (n : ℕ) → length (allDirt n) ≡ n
+unfolding allDirt
 lent-long n = length-replicate n dirt
 
 -- the part of n words of an array of m lent words
-pub part-lent : (n m : ℕ) (ws : List ℕ) → n ≤ m → AsLent m ws → take n ws ≡ lent n
+pub part-lent : (n m : ℕ) (ws : List ℕ) → n ≤ m → AsLent m ws → take n ws ≡ allDirt n
 part-lent n m ws h l = ap (take n) (l .words) ∙ taken-lent n m h
 
 pub part-long : (n m : ℕ) (ws : List ℕ) → n ≤ m → AsLent m ws → n ≡ length (take n ws)

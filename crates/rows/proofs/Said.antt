@@ -11,7 +11,7 @@ use lib.ListN.{length, take}
 use Rattle.refusals.specs.declared.report.Report.{Report}
 use Rattle.calls.specs.Outcomes.{Outcome, outcome}
 use Rattle.claims.specs.Sheet.{sameOutcome}
-use Rattle.rows.specs.Cases.{lent, AsLent, said}
+use Rattle.rows.specs.Cases.{allDirt, AsLent, said}
 use Rattle.rows.specs.declared.outcomes.Tried.{Tried}
 use Rattle.rows.proofs.Arrays.{lent-long, part-lent}
 
@@ -48,11 +48,11 @@ module _ (says : Report) (ws vs : List ℕ) where
       AsLent z b →
       AsLent z c →
       t ≡ trialOf (call (take n a) (take m b) (take k c)) (saidOf (take n a) (take m b) (take k c)) →
-      t ≡ trialOf (call (lent n) (lent m) (lent k)) (said says ws vs n m k)
+      t ≡ trialOf (call (allDirt n) (allDirt m) (allDirt k)) (said says ws vs n m k)
   tried-lent call n m k z a b c t hn hm hk la lb lc h =
       let first = part-lent n z a hn la in
       let second = part-lent m z b hm lb in
       let work = part-lent k z c hk lc in
       h
       ∙ (λ i. trialOf (call (first i) (second i) (work i)) (saidOf (first i) (second i) (work i)))
-      ∙ (λ i. trialOf (call (lent n) (lent m) (lent k)) (said says ws vs (lent-long n i) (lent-long m i) (lent-long k i)))
+      ∙ (λ i. trialOf (call (allDirt n) (allDirt m) (allDirt k)) (said says ws vs (lent-long n i) (lent-long m i) (lent-long k i)))

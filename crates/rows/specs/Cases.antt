@@ -1,6 +1,6 @@
 -- The rows of the sheet as they are tried: what arrays hold when they are lent, and what has to be in them afterwards.
 --
---   lent n                       n words as they are lent
+--   allDirt n                    n words as they are lent, each of them `dirt`
 --   AsLent n ws                  the array ws is such n words
 --   restOf number                what follows the terms in an array after a reply: what was lent after 1 to 8, else 0
 --   followed ws rest n           the words ws, then one word up to a length of n
@@ -30,11 +30,11 @@ use Rattle.rows.specs.declared.outcomes.Tried.{Tried}
 abbrev pub dirt : ℕ
 dirt = 0xdddddddddddddddd
 
-unfoldable pub lent : ℕ → List ℕ
-lent n = replicate n dirt
+unfoldable pub allDirt : ℕ → List ℕ
+allDirt n = replicate n dirt
 
 pub record AsLent (n : ℕ) (ws : List ℕ) : Type 0 where
-  pub words : ws ≡ lent n
+  pub words : ws ≡ allDirt n
   pub long : n ≡ length ws
 
 -- After a call
@@ -54,14 +54,14 @@ said says ws vs n m k = outcome says (after says ws n) (after says vs m) (after 
 -- Rows
 
 abbrev pub productRow : ℕ → List ℕ → List ℕ → ℕ → ℕ → Report → List ℕ → Row
-productRow p a b n k says ws = product p a b (lent (2 * n)) (lent k) (said says ws [] (2 * n) 0 k)
+productRow p a b n k says ws = product p a b (allDirt (2 * n)) (allDirt k) (said says ws [] (2 * n) 0 k)
 
 abbrev pub divisionRow : ℕ → List ℕ → List ℕ → ℕ → ℕ → ℕ → Report → List ℕ → List ℕ → Row
 divisionRow p f g n m k says ws vs =
-    division p f g (lent (2 * n)) (lent (2 * m)) (lent k) (said says ws vs (2 * n) (2 * m) k)
+    division p f g (allDirt (2 * n)) (allDirt (2 * m)) (allDirt k) (said says ws vs (2 * n) (2 * m) k)
 
 abbrev pub testRow : ℕ → List ℕ → List ℕ → ℕ → ℕ → Report → List ℕ → Row
-testRow p f g n k says ws = divideTest p f g (lent (2 * n)) (lent k) (said says ws [] (2 * n) 0 k)
+testRow p f g n k says ws = divideTest p f g (allDirt (2 * n)) (allDirt k) (said says ws [] (2 * n) 0 k)
 
 -- Rows tried
 

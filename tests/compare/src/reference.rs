@@ -21,8 +21,8 @@ fn numbers(call: &Call, [a, b, c, d, work]: &mut [Vec<u64>; 5]) -> Vec<u64> {
             let part = second::run::run(a, call.numbers[0]);
             vec![part.start as u64, part.end as u64]
         }
-        Kind::Sum => report(second::sum::sum(p, a, b, c)),
-        Kind::Difference => report(second::difference::difference(p, a, b, c)),
+        Kind::Sum => report(second::sums::sum(p, a, b, c)),
+        Kind::Difference => report(second::sums::difference(p, a, b, c)),
         Kind::Product => report(second::product::product(p, a, b, c, work)),
         Kind::Divide => report(second::division::divide(p, a, b, c, d, work)),
         Kind::Divides => report(second::divide_test::divides(p, a, b, c, work)),

@@ -5,7 +5,6 @@
 //! the engine: what both have in common is that page.
 
 pub mod check;
-pub mod difference;
 pub mod divide_test;
 pub mod division;
 pub mod field;
@@ -17,4 +16,4 @@ pub mod refusals;
 pub mod report;
 pub mod rooms;
 pub mod run;
-pub mod sum;
+pub mod sums;

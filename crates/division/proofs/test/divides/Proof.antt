@@ -8,7 +8,7 @@ use Rattle.refusals.specs.Dues.{withRoom}
 use Rattle.refusals.specs.declared.due.Due.{Due}
 use Rattle.calls.proofs.Refusals.{refused-tells, passed-goes-on}
 use Rattle.division.specs.Division.{testRules, tested, testOf}
-use Rattle.division.proofs.Accepted.{rules-walkable, all-asked}
+use Rattle.division.proofs.Walkable.{rules-walkable, all-asked}
 use Rattle.division.proofs.test.divides.Statement.{statement}
 use Rattle.division.proofs.test.divides.Tie as tie
 

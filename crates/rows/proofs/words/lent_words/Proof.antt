@@ -1,11 +1,11 @@
 -- `rows::words::lent_words` meets its contract.
 use mathlib.Core.Path.{refl}
-use Rattle.rows.specs.Cases.{lent}
+use Rattle.rows.specs.Cases.{allDirt}
 use Rattle.rows.proofs.words.lent_words.Statement.{statement}
 use Rattle.rows.proofs.words.lent_words.Tie as tie
 
 returns : tie.Need-returns
-unfolding lent
+unfolding allDirt
 returns c = record { words = refl; long = refl }
 
 pub lent-words-spec : {M : Type 1} → statement M
