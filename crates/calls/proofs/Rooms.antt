@@ -2,7 +2,6 @@
 --
 --   Written f s n       the first n records of s are the terms of f
 --   written-count       f has n terms
---   written-none        nothing is written of zero
 --   kept-holds          a room that was written and left with a reply holds what `holding` says
 --   holding-none        a call without a room leaves nothing in it
 --   ended-by            report, rooms and work that were left with a reply are what `ended` says
@@ -48,9 +47,6 @@ module _ {f : Poly (Letters 4)} {s : List ℕ} {n : ℕ} (W : Written f s n) whe
   written-long : length (wordsOf base f) ≡ 2 * n
   written-long =
       ap length (sym (flat-coded base f)) ∙ length-flat (codedPoly base f) ∙ ap (λ (x : ℕ). 2 * x) (length-coded base f ∙ written-count)
-
-pub written-none : (s : List ℕ) → Written [] s 0
-written-none s = record { within = omega arith; words = refl }
 
 module _ (reply : ℕ) (f : Poly (Letters 4)) (s₀ s s′ : List ℕ) (n : ℕ) (same : length s ≡ length s₀) (W : reply ≡ 0 → Written f s n) (left : s′ ≡ kept reply n s) where
   pub kept-holds : s′ ≡ holding reply f s₀
