@@ -1,3 +1,3 @@
 -- Laws of sum and difference.
-pub mod Merging
+pub mod Combining
 pub mod Determined

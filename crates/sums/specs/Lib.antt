@@ -1,3 +1,2 @@
--- Sum and difference. Read in this order.
+-- Sum and difference.
 pub mod Sums
-pub mod Merging

@@ -11,7 +11,7 @@ use Rattle.refusals.proofs.Accepted.{Shaped, Each}
 use Rattle.calls.specs.Inputs.{twoInputs}
 use Rattle.calls.proofs.Refusals.{asked, Good, rules-good}
 use Rattle.calls.proofs.Rooms.{room-within}
-use Rattle.sums.proofs.Merging.{combine-ends, combine-refused, combine-goes-on}
+use Rattle.sums.proofs.Combining.{combine-ends, combine-refused, combine-goes-on}
 use Rattle.sums.proofs.combine.Statement.{statement}
 use Rattle.sums.proofs.combine.Tie as tie
 

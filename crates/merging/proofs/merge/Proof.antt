@@ -3,9 +3,9 @@ use Prim.Native.Nat.{_+_, _-_}
 use native.Mathlib.Omega.{arith}
 use borrow.Author.Needs.{needs}
 use Rattle.poly.specs.Words.{records}
-use Rattle.sums.proofs.Merging.{Merged, merge-starts, merge-skips, merge-writes, merge-full, merge-done}
-use Rattle.sums.proofs.merge.Statement.{statement}
-use Rattle.sums.proofs.merge.Tie as tie
+use Rattle.merging.proofs.Merging.{Merged, merge-starts, merge-skips, merge-writes, merge-full, merge-done}
+use Rattle.merging.proofs.merge.Statement.{statement}
+use Rattle.merging.proofs.merge.Tie as tie
 
 abbrev Inv-loop : tie.InvT-loop
 Inv-loop p a b minus room₀ terms most i₀ j₀ n₀ room i j n = Merged p minus a b room₀ room i j n

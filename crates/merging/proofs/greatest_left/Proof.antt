@@ -7,9 +7,9 @@ use borrow.Author.Needs.{needs}
 use Rattle.poly.specs.Keys.{keyAt}
 use Rattle.poly.proofs.Maxima.{words-small}
 use Rattle.poly.proofs.Heads.{HeadTaken, head-taken}
-use Rattle.sums.proofs.Merging.{some-key, signed-small, greatest-left}
-use Rattle.sums.proofs.greatest_left.Statement.{statement}
-use Rattle.sums.proofs.greatest_left.Tie as tie
+use Rattle.merging.proofs.Merging.{some-key, signed-small, greatest-left}
+use Rattle.merging.proofs.greatest_left.Statement.{statement}
+use Rattle.merging.proofs.greatest_left.Tie as tie
 
 key-at-requires : tie.Need-key-at-requires
 key-at-requires c κs = let s = c .before .before in words-small _ _ (s .pre .1 .0) _

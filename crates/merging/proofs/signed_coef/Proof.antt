@@ -2,8 +2,8 @@
 use borrow.Author.Needs.{needs}
 use mathlib.Core.Path.{sym, _∙_, ap}
 use Rattle.algebra.specs.Polynomials.{signedCoef}
-use Rattle.sums.proofs.signed_coef.Statement.{statement}
-use Rattle.sums.proofs.signed_coef.Tie as tie
+use Rattle.merging.proofs.signed_coef.Statement.{statement}
+use Rattle.merging.proofs.signed_coef.Tie as tie
 
 neg-mod-requires : tie.Need-neg-mod-requires
 neg-mod-requires c κs = search needs

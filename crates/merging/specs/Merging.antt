@@ -2,18 +2,14 @@
 --
 --   unmerged p minus a b i j     the terms of a from record i on, and those of b, signed, from record j on
 --   Greatest                     the greatest monomial of what is unmerged, its coefficient, and the places behind it
---   combinedOf p minus a b room  the sum, or with `minus` the difference
 use Prim.Native.Nat.{ℕ, _+_, _-_, _<_, _≤_}
 use mathlib.Core.Bool.{Bool}
 use mathlib.Core.List.{List, _∷_, _++_}
 use Rattle.algebra.specs.Monomials.{Numbers}
 use Rattle.algebra.specs.Orders.{Rising}
 use Rattle.algebra.specs.Polynomials.{term, Poly, Equal, signed, Below}
-use Rattle.monomial.specs.Layout.{base}
-use Rattle.poly.specs.Words.{records, span, polyOf}
-use Rattle.calls.specs.Outcomes.{Outcome}
-use Rattle.sums.specs.Sums.{normalIn}
-use Rattle.sums.specs.declared.Lead.{Lead}
+use Rattle.poly.specs.Words.{records, span}
+use Rattle.merging.specs.declared.Lead.{Lead}
 
 abbrev pub unmerged : ℕ → Bool → List ℕ → List ℕ → ℕ → ℕ → Poly Numbers
 unmerged p minus a b i j = span a i (records a - i) ++ signed p minus (span b j (records b - j))
@@ -25,6 +21,3 @@ pub record Greatest (p : ℕ) (minus : Bool) (a b : List ℕ) (i j : ℕ) (r : L
   pub small : r .coef < p
   pub sums : Equal p (unmerged p minus a b i j) (term (r .word) (r .coef) ∷ unmerged p minus a b (r .first) (r .second))
   pub lower : Below Rising (r .word) (unmerged p minus a b (r .first) (r .second))
-
-abbrev pub combinedOf : ℕ → Bool → List ℕ → List ℕ → List ℕ → Outcome
-combinedOf p minus a b room = normalIn p a b (polyOf base a ++ signed p minus (polyOf base b)) room

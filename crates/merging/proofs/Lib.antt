@@ -1,0 +1,2 @@
+-- Laws of merging.
+pub mod Merging
