@@ -35,8 +35,7 @@ use Rattle.calls.specs.Inputs.{inputs, twoInputs}
 use Rattle.calls.specs.Outcomes.{outcome, roomReply}
 use Rattle.calls.proofs.Refusals.{Good, rules-good}
 use Rattle.calls.proofs.Endings.{firstOf, Ends, told-finished, refuses, replies, ends-unchanged, ends-cleared, ends-written}
-use Rattle.sums.specs.Sums.{sumOf}
-use Rattle.sums.specs.Sums.{combinedOf}
+use Rattle.sums.specs.Sums.{sumOf, combinedOf}
 use Rattle.sums.proofs.sum.Reads as sum
 use Rattle.claims.specs.Demands.{P, front, Result, Combined}
 

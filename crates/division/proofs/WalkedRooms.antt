@@ -30,8 +30,9 @@ use Rattle.calls.proofs.Rooms.{Written, written-count, kept-holds, holding-none
 use Rattle.judges.specs.Judges.{walkBy}
 use Rattle.judges.specs.Plans.{judgesBy, Ready}
 use Rattle.judges.specs.declared.Plan.{Plan}
-use Rattle.walk.specs.Walking.{whole, Fresh, Ran}
-use Rattle.walk.specs.declared.steps.State.{State}
+use Rattle.steps.specs.Walking.{whole}
+use Rattle.walk.specs.Running.{Fresh, Ran}
+use Rattle.steps.specs.declared.State.{State}
 use Rattle.walk.proofs.Runs.{zero-words}
 
 -- the records of the quotient room are the rows of the tree: cleared, they are rows whatever was in them

@@ -3,4 +3,3 @@ pub mod Ways
 pub mod Taking
 pub mod Planting
 pub mod Adding
-pub mod Growing

@@ -1,3 +1,2 @@
-// The tree of rows, which finds the greatest of many products, and its growth.
-pub mod growth;
+// The tree of rows, which finds the greatest of many products.
 pub mod rows;

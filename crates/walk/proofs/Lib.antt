@@ -1,8 +1,3 @@
--- Laws of the walk on words, in the order in which they build on one another.
-pub mod Seen
-pub mod Greatest
-pub mod Rows
-pub mod Onward
+-- Laws of the whole walk, in the order in which they build on one another.
 pub mod Runs
 pub mod Looping
-pub mod Determined

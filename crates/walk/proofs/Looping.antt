@@ -23,14 +23,16 @@ use Rattle.algebra.specs.Walk.{Walked, stopped, joined}
 use Rattle.algebra.proofs.Clauses.{walk-ends}
 use Rattle.monomial.specs.Layout.{base}
 use Rattle.poly.specs.Words.{records, wordAt, coefAt, termAt, terms, span, decodedPoly, Monomial}
-use Rattle.tree.specs.Tree.{Grown}
-use Rattle.tree.proofs.Growing.{Front, grown-live, grown-awaited, grown-root}
+use Rattle.growth.specs.Growth.{Grown}
+use Rattle.growth.proofs.Growing.{Front, grown-live, grown-awaited, grown-root}
 use Rattle.poly.specs.Keys.{keyAt}
-use Rattle.walk.specs.Walking.{remaining, seen, whole, walkOn, Walking, Fresh, Stepped, Enough, Ran}
+use Rattle.heads.specs.Remaining.{remaining}
+use Rattle.steps.specs.Walking.{seen, whole, walkOn, Walking, Stepped}
+use Rattle.walk.specs.Running.{Fresh, Enough, Ran}
 use Rattle.judges.specs.Plans.{judgesOf, Ready}
 use Rattle.judges.specs.declared.Plan.{Plan}
-use Rattle.walk.specs.declared.steps.State.{State}
-use Rattle.walk.proofs.Greatest.{remaining-none}
+use Rattle.steps.specs.declared.State.{State}
+use Rattle.heads.proofs.Greatest.{remaining-none}
 use Rattle.walk.proofs.Runs.{smaller-of, walk-starts}
 
 -- The front of a room

@@ -26,7 +26,8 @@ use Rattle.tree.proofs.Planting.{awaited-none}
 use Rattle.poly.proofs.Maxima.{words-small}
 use Rattle.judges.specs.Judges.{steps, walkBy}
 use Rattle.poly.specs.Keys.{keyAt}
-use Rattle.walk.specs.Walking.{remaining, seen, Walking}
+use Rattle.heads.specs.Remaining.{remaining}
+use Rattle.steps.specs.Walking.{seen, Walking}
 use Rattle.judges.specs.Plans.{judgesOf, Ready}
 use Rattle.judges.specs.declared.Plan.{Plan}
 use Rattle.poly.proofs.Heads.{key-here, key-beyond}

@@ -1,2 +1,2 @@
--- The walk on words.
-pub mod Walking
+-- The whole walk.
+pub mod Running

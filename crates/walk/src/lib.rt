@@ -3,18 +3,15 @@ ghost use mathlib.Core.Path.{_≡_};
 ghost use Prim.Native.Nat.{ℕ, _*_, _<_, _≤_};
 ghost use lib.ListN.{length, getD};
 ghost use Rattle.judges.specs.Plans.{Ready};
-ghost use Rattle.walk.specs.Walking.{Fresh, Enough, Ran};
+ghost use Rattle.walk.specs.Running.{Fresh, Enough, Ran};
 
-pub mod heads;
-pub mod steps;
-
-use crate::heads::greatest_key;
-use crate::steps::State;
-use crate::steps::step;
+use heads::greatest_key;
+use steps::State;
+use steps::step;
 use judges::Plan;
 use poly::numbers::smaller;
 use poly::room::clear;
-use tree::growth::grow;
+use growth::grow;
 
 // The rows of a new tree. It grows with the quotient, so that a room much longer than the quotient costs nothing.
 const FIRST_ROWS: usize = 16;

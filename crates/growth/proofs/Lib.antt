@@ -1,0 +1,2 @@
+-- Laws of a tree that grows.
+pub mod Growing

@@ -1,0 +1,2 @@
+-- A tree that grows.
+pub mod Growth

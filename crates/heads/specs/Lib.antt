@@ -1,0 +1,2 @@
+-- What remains.
+pub mod Remaining

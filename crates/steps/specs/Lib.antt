@@ -1,0 +1,2 @@
+-- One step.
+pub mod Walking
