@@ -19,11 +19,11 @@ use Rattle.poly.specs.Words.{records}
 use Rattle.poly.specs.Valid.{Valid}
 use Rattle.refusals.specs.Reports.{none, firstOr}
 use Rattle.refusals.specs.Rules.{Lent, inputTerms, refusals}
-use Rattle.refusals.specs.Dues.{noDue, withRooms, withInputs, firstDue}
+use Rattle.dues.specs.Dues.{noDue, withRooms, withInputs, firstDue}
 use Rattle.refusals.specs.declared.report.Report.{Report}
-use Rattle.refusals.specs.declared.due.Due.{Due}
+use Rattle.dues.specs.declared.Due.{Due}
 use Rattle.refusals.proofs.Reports.{fold-passed}
-use Rattle.refusals.proofs.Dues.{dues-first}
+use Rattle.dues.proofs.Dues.{dues-first}
 use Rattle.refusals.proofs.Accepted.{Shaped, Each, refusals-accepted}
 use Rattle.calls.specs.Inputs.{inputs}
 use Rattle.calls.specs.Outcomes.{Outcome, outcome, unlessRefused}

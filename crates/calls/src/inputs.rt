@@ -1,8 +1,8 @@
 // The inputs of a call on two polynomials.
 ghost use mathlib.Core.Path.{_≡_};
-ghost use Rattle.refusals.specs.Dues.{noDue, withInputs};
+ghost use Rattle.dues.specs.Dues.{noDue, withInputs};
 ghost use Rattle.calls.specs.Inputs.{inputs};
-use refusals::due::Due;
+use dues::Due;
 use refusals::rules::INPUT_TERMS;
 
 // The refusals due of two inputs.

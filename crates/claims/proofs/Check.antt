@@ -18,7 +18,8 @@ use Rattle.field.specs.Moduli.{isModulus}
 use Rattle.monomial.specs.Layout.{base, isMonomial}
 use Rattle.poly.specs.Words.{records, wordAt}
 use Rattle.refusals.specs.Reports.{refusal, done}
-use Rattle.refusals.specs.Rules.{inputTerms, guardAt, orderAt, badCoefAt, modulusRule, oddRule, longRule, guardRule, orderRule, coefRule, refusals}
+use Rattle.refusals.specs.Rules.{inputTerms, modulusRule, oddRule, longRule, guardRule, orderRule, coefRule, refusals}
+use Rattle.faults.specs.Faults.{guardAt, orderAt, badCoefAt}
 use Rattle.services.specs.Services.{asInput, checkOf}
 use Rattle.services.proofs.check.check.Reads as call
 use Rattle.poly.specs.Valid.{Valid}

@@ -17,7 +17,8 @@ use Rattle.field.specs.Answers.{balancedOf, balancedValue}
 use Rattle.field.specs.declared.Balance.{Balance}
 use Rattle.monomial.specs.Layout.{isMonomial}
 use Rattle.poly.specs.Words.{polyOf}
-use Rattle.refusals.specs.Rules.{guardAt, orderAt, badCoefAt, modulusRule, oddRule, longRule, guardRule, orderRule, coefRule, divisorRule, workRule}
+use Rattle.faults.specs.Faults.{guardAt, orderAt, badCoefAt}
+use Rattle.refusals.specs.Rules.{modulusRule, oddRule, longRule, guardRule, orderRule, coefRule, divisorRule, workRule}
 use Rattle.refusals.specs.declared.report.Report.{Report}
 use Rattle.calls.specs.Outcomes.{Outcome}
 use Rattle.product.specs.Products.{multiplied, productOf}

@@ -11,9 +11,9 @@ use Rattle.monomial.specs.Layout.{base}
 use Rattle.poly.specs.Words.{records}
 use Rattle.refusals.specs.Reports.{none, firstOr}
 use Rattle.refusals.specs.Rules.{Lent, lent, inputTerms, refusals}
-use Rattle.refusals.specs.Dues.{noDue, withRooms, withInputs, firstDue}
+use Rattle.dues.specs.Dues.{noDue, withRooms, withInputs, firstDue}
 use Rattle.refusals.specs.declared.report.Report.{Report}
-use Rattle.refusals.specs.declared.due.Due.{Due}
+use Rattle.dues.specs.declared.Due.{Due}
 use Rattle.refusals.proofs.Reports.{fold-append, fold-passed}
 use Rattle.refusals.proofs.Accepted.{Shaped, Each, divisor-passed, work-passed}
 use Rattle.calls.specs.Inputs.{inputs}

@@ -27,26 +27,8 @@ use Rattle.field.specs.Moduli.{isModulus}
 use Rattle.monomial.specs.Layout.{base, isMonomial}
 use Rattle.poly.specs.Words.{records, wordAt, coefAt}
 use Rattle.refusals.specs.Reports.{none, refusal, Passed}
-use Rattle.refusals.specs.Rules.{
-  unless,
-  atTerm,
-  guardAt,
-  orderAt,
-  badCoefAt,
-  modulusRule,
-  oddRule,
-  longRule,
-  guardRule,
-  orderRule,
-  coefRule,
-  divisorRule,
-  workRule,
-  Lent,
-  shapeRules,
-  orderRules,
-  coefRules,
-  refusals,
-}
+use Rattle.refusals.specs.Rules.{unless, atTerm, modulusRule, oddRule, longRule, guardRule, orderRule, coefRule, divisorRule, workRule, Lent, shapeRules, orderRules, coefRules, refusals}
+use Rattle.faults.specs.Faults.{guardAt, orderAt, badCoefAt}
 use Rattle.poly.specs.Valid.{Valid}
 use Rattle.refusals.specs.declared.report.Report.{Report}
 use Rattle.refusals.proofs.Reports.{Own, passed-append, append-passed}

@@ -14,11 +14,6 @@ use Rattle.refusals.proofs.rules.odd_rule.Reads as odd-rule
 use Rattle.refusals.proofs.rules.long_rule.Reads as long-rule
 use Rattle.refusals.proofs.rules.divisor_rule.Reads as divisor-rule
 use Rattle.refusals.proofs.rules.work_rule.Reads as work-rule
-use Rattle.refusals.proofs.rules.find_faults.Reads as find-faults
-use Rattle.refusals.proofs.due.Due.none.Reads as none
-use Rattle.refusals.proofs.due.Due.room.Reads as room
-use Rattle.refusals.proofs.due.Due.input.Reads as input
-use Rattle.refusals.proofs.due.Due.first.Reads as first
 
 pub refusal-asks-nothing : (κs : _) (a : _) → refusal.Pre κs a
 refusal-asks-nothing κs a = tt
@@ -79,33 +74,3 @@ work-rule-asks-nothing κs a = tt
 
 pub work-rule-determined : (κs : _) (a : _) (r r′ : _) (s s′ : _) → work-rule.Post κs a r s → work-rule.Post κs a r′ s′ → r ≡ r′
 work-rule-determined κs a r r′ s s′ p q = p ∙ sym q
-
-pub find-faults-asks-nothing : (κs : _) (a : _) → find-faults.Pre κs a
-find-faults-asks-nothing κs a = tt
-
-pub find-faults-determined : (κs : _) (a : _) (r r′ : _) (s s′ : _) → find-faults.Post κs a r s → find-faults.Post κs a r′ s′ → r ≡ r′
-find-faults-determined κs a r r′ s s′ p q = p ∙ sym q
-
-pub none-asks-nothing : (κs : _) (a : _) → none.Pre κs a
-none-asks-nothing κs a = tt
-
-pub none-determined : (κs : _) (a : _) (r r′ : _) (s s′ : _) → none.Post κs a r s → none.Post κs a r′ s′ → r ≡ r′
-none-determined κs a r r′ s s′ p q = p ∙ sym q
-
-pub room-asks-nothing : (κs : _) (a : _) → room.Pre κs a
-room-asks-nothing κs a = tt
-
-pub room-determined : (κs : _) (a : _) (r r′ : _) (s s′ : _) → room.Post κs a r s → room.Post κs a r′ s′ → r ≡ r′
-room-determined κs a r r′ s s′ p q = p ∙ sym q
-
-pub input-asks-nothing : (κs : _) (a : _) → input.Pre κs a
-input-asks-nothing κs a = tt
-
-pub input-determined : (κs : _) (a : _) (r r′ : _) (s s′ : _) → input.Post κs a r s → input.Post κs a r′ s′ → r ≡ r′
-input-determined κs a r r′ s s′ p q = p ∙ sym q
-
-pub first-asks-nothing : (κs : _) (a : _) → first.Pre κs a
-first-asks-nothing κs a = tt
-
-pub first-determined : (κs : _) (a : _) (r r′ : _) (s s′ : _) → first.Post κs a r s → first.Post κs a r′ s′ → r ≡ r′
-first-determined κs a r r′ s s′ p q = p ∙ sym q

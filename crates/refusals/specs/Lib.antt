@@ -1,4 +1,3 @@
 -- The report, and the refusals 1 to 8. Read in this order.
 pub mod Reports
 pub mod Rules
-pub mod Dues

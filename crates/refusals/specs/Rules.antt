@@ -9,22 +9,21 @@
 --   coefRule p operand s        6: a coefficient is 0 or at least p
 --   divisorRule g               7: the divisor is zero
 --   workRule least work         8: the work array is too short
---   faultsOf l p s              the first place of 4, of 5 and of 6 in a slice
 --   Lent                        an input or output slice: its operand, its words, and the most terms it may have
 --   lent operand s most         such a slice
 --   refusals l p ins outs       the rules 1 to 6 of a call with these inputs and outputs, in the order in which they win
-use Prim.Native.Nat.{ℕ, zero, suc, _%_}
-use mathlib.Core.Bool.{Bool, false, not, _||_}
+use Prim.Native.Nat.{ℕ, _%_}
+use mathlib.Core.Bool.{Bool}
 use mathlib.Core.List.{List, _∷_, _++_, map}
 use lib.Dec.{eqb, leb, ltb}
 use lib.ListN.{length}
 use Rattle.algebra.specs.Residues.{pick, first}
 use Rattle.field.specs.Moduli.{isModulus}
-use Rattle.monomial.specs.Layout.{Layout, isMonomial}
-use Rattle.poly.specs.Words.{records, wordAt, coefAt}
+use Rattle.monomial.specs.Layout.{Layout}
+use Rattle.poly.specs.Words.{records}
+use Rattle.faults.specs.Faults.{guardAt, orderAt, badCoefAt}
 use Rattle.refusals.specs.Reports.{none, refusal}
 use Rattle.refusals.specs.declared.report.Report.{Report}
-use Rattle.refusals.specs.declared.rules.Faults.{Faults}
 
 -- The most terms: of an input or a quotient room, and of any other room
 
@@ -41,18 +40,6 @@ unless passed n operand = pick passed none (refusal n operand 0)
 -- the refusal n at term i, where i is one of the terms
 abbrev pub atTerm : ℕ → ℕ → ℕ → ℕ → Report
 atTerm n operand i count = pick (ltb i count) (refusal n operand i) none
-
--- The tests of one term
-
-unfoldable pub guardAt : Layout → List ℕ → ℕ → Bool
-guardAt l s i = not (isMonomial l (wordAt s i))
-
-unfoldable pub orderAt : List ℕ → ℕ → Bool
-orderAt s zero = false
-orderAt s (suc i) = leb (wordAt s i) (wordAt s (suc i))
-
-unfoldable pub badCoefAt : ℕ → List ℕ → ℕ → Bool
-badCoefAt p s i = eqb (coefAt s i) 0 || leb p (coefAt s i)
 
 -- The rules
 
@@ -79,15 +66,6 @@ divisorRule g = unless (ltb 0 (records g)) 7 2
 
 unfoldable pub workRule : ℕ → List ℕ → Report
 workRule least work = unless (leb least (length work)) 8 5
-
--- the first place of 4, of 5 and of 6, and the number of terms where there is none
-unfoldable pub faultsOf : Layout → ℕ → List ℕ → Faults
-faultsOf l p s =
-    record {
-      guard = first (guardAt l s) 0 (records s);
-      order = first (orderAt s) 0 (records s);
-      coef = first (badCoefAt p s) 0 (records s);
-    }
 
 -- The rules 1 to 6 as they stand in every call
 

@@ -1,7 +1,7 @@
 // The check of one polynomial.
 ghost use mathlib.Core.Path.{_≡_};
 ghost use Rattle.services.specs.Services.{checkOf};
-use refusals::due::Due;
+use dues::Due;
 use refusals::report::Report;
 use refusals::report::done;
 use refusals::rules::INPUT_TERMS;

@@ -5,7 +5,7 @@ ghost use denote.Ref.{ptr};
 ghost use Rattle.algebra.specs.Residues.{first};
 ghost use Rattle.poly.specs.Words.{records, wordAt};
 ghost use Rattle.services.specs.Services.{powerIs, inOrder, runOf, wordsFrom};
-use refusals::due::Due;
+use dues::Due;
 use refusals::report::done;
 use refusals::report::or_else;
 use refusals::rules::INPUT_TERMS;

@@ -1,4 +1,4 @@
--- `pair_refusal` meets its contract: the modulus is tried first, then each operand.
+-- `field::pair_refusal` meets its contract: the modulus is tried first, then each operand.
 use mathlib.Core.Path.{_≡_}
 use mathlib.Core.Bool.{true}
 use borrow.Author.Needs.{needs}

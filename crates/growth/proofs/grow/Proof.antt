@@ -1,4 +1,4 @@
--- `tree::growth::grow` meets its contract: the leaves moved, and the records above them are built anew.
+-- `growth::grow` meets its contract: the leaves moved, and the records above them are built anew.
 use borrow.Author.Needs.{needs}
 use Rattle.growth.proofs.Growing.{grows}
 use Rattle.growth.proofs.grow.Statement.{statement}

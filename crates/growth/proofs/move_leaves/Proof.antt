@@ -1,4 +1,4 @@
--- `tree::growth::move_leaves` meets its contract. The loop's invariant: the leaves from `row` on have moved.
+-- `growth::move_leaves` meets its contract. The loop's invariant: the leaves from `row` on have moved.
 use Prim.Native.Nat.{_≤_, _-_}
 use native.Mathlib.Omega.{arith}
 use lib.ListN.{length-set}

@@ -1,4 +1,4 @@
--- `walk::heads::root` meets its contract.
+-- `heads::root` meets its contract.
 use mathlib.Core.Path.{sym}
 use lib.ListN.{List·getD-eq-default}
 use borrow.Author.Needs.{needs}

@@ -1,4 +1,4 @@
--- `walk::heads::take_at` meets its contract.
+-- `heads::take_at` meets its contract.
 use Rattle.heads.proofs.Greatest.{nothing-taken}
 use borrow.Author.Needs.{needs}
 use Rattle.heads.proofs.take_at.Statement.{statement}

@@ -1,4 +1,4 @@
--- `walk::heads::take_head` meets its contract.
+-- `heads::take_head` meets its contract.
 use Prim.Native.Nat.{_+_, _-_, _%_}
 use mathlib.Core.Path.{_∙_, ap}
 use native.Mathlib.Nat.{mod-lt, le-max-left}

@@ -1,4 +1,4 @@
--- `sums::greatest_left` meets its contract: it takes the heads of both inputs at the greater of their keys.
+-- `merging::greatest_left` meets its contract: it takes the heads of both inputs at the greater of their keys.
 use Prim.Native.Nat.{_<_, max}
 use mathlib.Core.Path.{_≡_, _∙_, subst, sym}
 use native.Mathlib.Nat.{le-max-left, le-max-right}

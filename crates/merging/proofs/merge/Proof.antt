@@ -1,4 +1,4 @@
--- `sums::merge` meets its contract. The loop's invariant: what is written and the normal form of what is unmerged are the whole.
+-- `merging::merge` meets its contract. The loop's invariant: what is written and the normal form of what is unmerged are the whole.
 use Prim.Native.Nat.{_+_, _-_}
 use native.Mathlib.Omega.{arith}
 use borrow.Author.Needs.{needs}

@@ -1,4 +1,4 @@
--- `sums::signed_coef` meets its contract.
+-- `merging::signed_coef` meets its contract.
 use borrow.Author.Needs.{needs}
 use mathlib.Core.Path.{sym, _∙_, ap}
 use Rattle.algebra.specs.Polynomials.{signedCoef}

@@ -1,4 +1,4 @@
--- `divide` meets its contract: the quotient's word is the difference.
+-- `monomial::divide` meets its contract: the quotient's word is the difference.
 use mathlib.Core.Path.{_∙_, sym}
 use borrow.Author.Needs.{needs}
 use Rattle.monomial.specs.Layout.{base}

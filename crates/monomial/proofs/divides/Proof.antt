@@ -1,4 +1,4 @@
--- `divides` meets its contract: both words are tested at once, then what is left of the guard bits after the difference.
+-- `monomial::divides` meets its contract: both words are tested at once, then what is left of the guard bits after the difference.
 use mathlib.Core.Path.{_≡_, _∙_, sym}
 use mathlib.Core.Bool.{true}
 use borrow.Author.Needs.{needs}

@@ -1,4 +1,4 @@
--- `exponent` meets its contract: a letter's field, counted from the bottom of the word.
+-- `monomial::exponent` meets its contract: a letter's field, counted from the bottom of the word.
 use mathlib.Core.Path.{_∙_, sym}
 use Prim.Native.Nat.{_/_, _^_, _*_, _-_}
 use native.Mathlib.Omega.{arith}

@@ -1,4 +1,4 @@
--- `is_monomial` meets its contract: the mask of guard bits, over four fields of sixteen bits.
+-- `monomial::is_monomial` meets its contract: the mask of guard bits, over four fields of sixteen bits.
 use Rattle.monomial.proofs.Masks.{mask-monomial}
 use Rattle.monomial.proofs.is_monomial.Statement.{statement}
 use Rattle.monomial.proofs.is_monomial.Tie as tie

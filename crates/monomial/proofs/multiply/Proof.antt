@@ -1,4 +1,4 @@
--- `multiply` meets its contract: both words are tested at once, then their sum.
+-- `monomial::multiply` meets its contract: both words are tested at once, then their sum.
 use Prim.Native.Nat.{_+_}
 use mathlib.Core.Path.{_≡_, _∙_, sym, ap}
 use mathlib.Core.Bool.{true, _&&_}

@@ -1,4 +1,4 @@
--- `pack` meets its contract: one test for four exponents, then each in its place.
+-- `monomial::pack` meets its contract: one test for four exponents, then each in its place.
 use mathlib.Core.Path.{_≡_, _∙_, sym}
 use mathlib.Core.Bool.{true, false}
 use native.Mathlib.Omega.{arith}

@@ -1,4 +1,4 @@
--- `unpack` meets its contract: the four calls of `exponent` give the four fields.
+-- `monomial::unpack` meets its contract: the four calls of `exponent` give the four fields.
 use mathlib.Core.Path.{_∙_, sym}
 use borrow.Author.Needs.{needs}
 use borrow.Author.Tests.{not-true, not-false}

@@ -9,8 +9,8 @@ use borrow.Author.Needs.{needs}
 use Rattle.poly.specs.Words.{records}
 use Rattle.refusals.specs.Reports.{none, orElse, firstOr}
 use Rattle.refusals.specs.Rules.{lent, roomTerms, workRule}
-use Rattle.refusals.specs.Dues.{withRoom}
-use Rattle.refusals.specs.declared.due.Due.{Due}
+use Rattle.dues.specs.Dues.{withRoom}
+use Rattle.dues.specs.declared.Due.{Due}
 use Rattle.calls.specs.Inputs.{twoInputs}
 use Rattle.calls.proofs.Refusals.{asked, Good, rules-good}
 use Rattle.product.proofs.Products.{factors-exchanged, product-refused, product-goes-on, work-suffices}

@@ -1,4 +1,4 @@
--- `walk::steps::put_row` meets its contract.
+-- `steps::put_row` meets its contract.
 use native.Mathlib.Omega.{arith}
 use Rattle.steps.proofs.Rows.{row-ready, row-more, row-alone}
 use borrow.Author.Needs.{needs}

@@ -1,4 +1,4 @@
--- `walk::steps::step` meets its contract: each way out is a law of `Onward`, at the head that was taken.
+-- `steps::step` meets its contract: each way out is a law of `Onward`, at the head that was taken.
 use mathlib.Core.Path.{_≡_, sym, _∙_}
 use mathlib.Core.Bool.{true, false}
 use Prim.Native.Nat.{_-_}

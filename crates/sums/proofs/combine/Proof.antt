@@ -5,8 +5,8 @@ use lib.ListN.{length}
 use borrow.Author.Needs.{needs}
 use Rattle.refusals.specs.Reports.{none, firstOr}
 use Rattle.refusals.specs.Rules.{lent, roomTerms}
-use Rattle.refusals.specs.Dues.{withRoom}
-use Rattle.refusals.specs.declared.due.Due.{Due}
+use Rattle.dues.specs.Dues.{withRoom}
+use Rattle.dues.specs.declared.Due.{Due}
 use Rattle.refusals.proofs.Accepted.{Shaped, Each}
 use Rattle.calls.specs.Inputs.{twoInputs}
 use Rattle.calls.proofs.Refusals.{asked, Good, rules-good}

@@ -2,8 +2,8 @@
 use mathlib.Core.Path.{_∙_, ap}
 use borrow.Author.Needs.{needs}
 use Rattle.refusals.specs.Rules.{lent, inputTerms}
-use Rattle.refusals.specs.Dues.{withInput}
-use Rattle.refusals.specs.declared.due.Due.{Due}
+use Rattle.dues.specs.Dues.{withInput}
+use Rattle.dues.specs.declared.Due.{Due}
 use Rattle.calls.proofs.inputs.two_inputs.Statement.{statement}
 use Rattle.calls.proofs.inputs.two_inputs.Tie as tie
 

@@ -4,8 +4,8 @@ use mathlib.Core.List.{[], _∷_}
 use borrow.Author.Needs.{needs}
 use Rattle.refusals.specs.Reports.{none, firstOr}
 use Rattle.refusals.specs.Rules.{lent, inputTerms, roomTerms}
-use Rattle.refusals.specs.Dues.{withRoom}
-use Rattle.refusals.specs.declared.due.Due.{Due}
+use Rattle.dues.specs.Dues.{withRoom}
+use Rattle.dues.specs.declared.Due.{Due}
 use Rattle.calls.proofs.Refusals.{refused-tells, passed-goes-on}
 use Rattle.division.specs.Division.{divideRules, divided, divideOf}
 use Rattle.division.proofs.Walkable.{rules-walkable, all-asked}

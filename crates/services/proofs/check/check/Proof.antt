@@ -4,9 +4,9 @@ use mathlib.Core.List.{[], _∷_}
 use borrow.Author.Needs.{needs}
 use Rattle.poly.specs.Words.{records}
 use Rattle.refusals.specs.Reports.{done}
-use Rattle.refusals.specs.Dues.{noDue, withInput, firstDue}
-use Rattle.refusals.specs.declared.due.Due.{Due}
-use Rattle.refusals.proofs.Dues.{dues-first}
+use Rattle.dues.specs.Dues.{noDue, withInput, firstDue}
+use Rattle.dues.specs.declared.Due.{Due}
+use Rattle.dues.proofs.Dues.{dues-first}
 use Rattle.services.specs.Services.{asInput, checkOf}
 use Rattle.services.proofs.check.check.Statement.{statement}
 use Rattle.services.proofs.check.check.Tie as tie

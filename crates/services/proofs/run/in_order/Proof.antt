@@ -2,9 +2,9 @@
 use mathlib.Core.Path.{_≡_, _∙_, ap}
 use lib.Dec.{eqb}
 use borrow.Author.Needs.{needs}
-use Rattle.refusals.specs.Dues.{noDue, withInput}
+use Rattle.dues.specs.Dues.{noDue, withInput}
 use Rattle.refusals.specs.declared.report.Report.{Report}
-use Rattle.refusals.specs.declared.due.Due.{Due}
+use Rattle.dues.specs.declared.Due.{Due}
 use Rattle.refusals.proofs.Reports.{chain}
 use Rattle.services.specs.Services.{asInput, inOrder}
 use Rattle.services.proofs.run.in_order.Statement.{statement}

@@ -1,0 +1,3 @@
+-- Laws of refusals due.
+pub mod Dues
+pub mod Determined

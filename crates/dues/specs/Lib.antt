@@ -1,0 +1,2 @@
+-- Refusals due.
+pub mod Dues

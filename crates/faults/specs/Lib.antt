@@ -1,0 +1,2 @@
+-- Faults of terms.
+pub mod Faults
