@@ -12,8 +12,8 @@ use native.Mathlib.Omega.{arith}
 use lib.Dec.{eqb}
 use borrow.Author.Tests.{eq-eqb, ne-eqb}
 use Rattle.algebra.specs.Residues.{Prime, pick}
-use Rattle.field.specs.Moduli.{limit}
-use Rattle.field.proofs.Moduli.{modulus-prime, modulus-within}
+use Rattle.moduli.specs.Moduli.{limit}
+use Rattle.moduli.proofs.Moduli.{modulus-prime, modulus-within}
 use Rattle.monomial.specs.Layout.{base}
 use Rattle.poly.specs.Words.{records}
 use Rattle.poly.specs.Valid.{Valid}

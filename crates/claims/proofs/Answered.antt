@@ -5,7 +5,7 @@
 use mathlib.Core.Path.{_≡_}
 use mathlib.Core.List.{[]}
 use denote.Ref.{now, ptr}
-use Rattle.field.proofs.modulus.Reads as modulus
+use Rattle.moduli.proofs.modulus.Reads as modulus
 use Rattle.field.proofs.sum.Reads as field-sum
 use Rattle.field.proofs.product.Reads as field-product
 use Rattle.field.proofs.inverse.Reads as inverse

@@ -14,7 +14,7 @@ use denote.Ref.{now}
 use lib.Dec.{eqb, leb}
 use lib.ListN.{length}
 use borrow.Author.Tests.{leb-false, eqb-false, lt-leb, ne-eqb}
-use Rattle.field.specs.Moduli.{isModulus}
+use Rattle.moduli.specs.Moduli.{isModulus}
 use Rattle.monomial.specs.Layout.{base, isMonomial}
 use Rattle.poly.specs.Words.{records, wordAt}
 use Rattle.refusals.specs.Reports.{refusal, done}

@@ -24,7 +24,7 @@ use Rattle.algebra.specs.Residues.{Prime}
 use Rattle.algebra.specs.Monomials.{Letters}
 use Rattle.algebra.specs.Orders.{Lex}
 use Rattle.algebra.specs.Polynomials.{Poly, Normal}
-use Rattle.field.specs.Moduli.{limit}
+use Rattle.moduli.specs.Moduli.{limit}
 use Rattle.monomial.specs.Layout.{base}
 use Rattle.poly.specs.Words.{records, termAt, terms, polyOf, wordsOf, filled, cleared}
 use Rattle.poly.specs.Valid.{Valid}

@@ -27,7 +27,7 @@ use Rattle.algebra.specs.Orders.{Lex}
 use Rattle.algebra.specs.Polynomials.{Poly, mul, norm, Equal, Normal}
 use Rattle.algebra.proofs.NormalForm.{norm-self}
 use Rattle.algebra.proofs.Leads.{prime-positive}
-use Rattle.field.specs.Moduli.{limit}
+use Rattle.moduli.specs.Moduli.{limit}
 use Rattle.monomial.specs.Layout.{base}
 use Rattle.poly.specs.Words.{records, termAt, terms, polyOf, wordsOf, filled, cleared}
 use Rattle.poly.specs.Valid.{Valid}

@@ -30,7 +30,7 @@ use Rattle.algebra.specs.Orders.{Lex}
 use Rattle.algebra.specs.Polynomials.{Poly, coef, mul, largest, norm, Equal, Normal}
 use Rattle.algebra.proofs.NormalForm.{norm-all, norm-normal, norm-equal, norm-unique, equal-trans, equal-sym, normal-unique}
 use Rattle.algebra.proofs.Ring.{mul-comm}
-use Rattle.field.specs.Moduli.{limit}
+use Rattle.moduli.specs.Moduli.{limit}
 use Rattle.monomial.specs.Layout.{base}
 use Rattle.monomial.proofs.Laws.{fit}
 use Rattle.poly.specs.Words.{records, terms, polyOf, wordsOf, filled, cleared}

@@ -12,7 +12,7 @@ use native.Mathlib.Decide.{decLt}
 use borrow.Author.Tests.{eqb-true}
 use Rattle.algebra.specs.Residues.{isPrime, inverse}
 use Rattle.algebra.proofs.Tests.{both-true}
-use Rattle.field.specs.Moduli.{isModulus}
+use Rattle.moduli.specs.Moduli.{isModulus}
 use Rattle.field.specs.Answers.{balancedOf, balancedValue}
 use Rattle.field.specs.declared.Balance.{Balance}
 use Rattle.monomial.specs.Layout.{isMonomial}

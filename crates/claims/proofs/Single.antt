@@ -13,9 +13,9 @@ use denote.Ref.{now}
 use lib.Dec.{eqb, ltb}
 use lib.IntN.{pos}
 use Rattle.algebra.specs.Residues.{pick}
-use Rattle.field.specs.Moduli.{isModulus, modulusOf}
+use Rattle.moduli.specs.Moduli.{isModulus, modulusOf}
 use Rattle.field.specs.Answers.{refusalOf, orRefused, noValue, fieldSumOf, fieldProductOf, inverseOf, balancedOf, residueOf}
-use Rattle.field.proofs.modulus.Reads as modulus
+use Rattle.moduli.proofs.modulus.Reads as modulus
 use Rattle.field.proofs.sum.Reads as field-sum
 use Rattle.field.proofs.product.Reads as field-product
 use Rattle.field.proofs.inverse.Reads as inverse

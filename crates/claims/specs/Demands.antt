@@ -22,7 +22,7 @@ use Rattle.algebra.specs.Residues.{Prime}
 use Rattle.algebra.specs.Monomials.{Letters}
 use Rattle.algebra.specs.Orders.{Lex}
 use Rattle.algebra.specs.Polynomials.{term, Poly, Equal, mul, negated, norm, NoMultiple, Normal}
-use Rattle.field.specs.Moduli.{limit, isModulus}
+use Rattle.moduli.specs.Moduli.{limit, isModulus}
 use Rattle.monomial.specs.Layout.{base}
 use Rattle.poly.specs.Words.{records, termAt, polyOf, wordsOf, filled, cleared}
 use Rattle.poly.specs.Valid.{Valid}

@@ -3,7 +3,7 @@ ghost use mathlib.Core.Path.{_≡_};
 ghost use Prim.Native.Nat.{_*_, _<_, _≤_};
 ghost use lib.ListN.{length};
 ghost use Rattle.algebra.specs.Residues.{Prime};
-ghost use Rattle.field.specs.Moduli.{limit};
+ghost use Rattle.moduli.specs.Moduli.{limit};
 ghost use Rattle.poly.specs.Words.{records};
 ghost use Rattle.poly.specs.Valid.{Valid};
 ghost use Rattle.refusals.specs.Rules.{inputTerms};

@@ -1,6 +1,6 @@
 -- What a modeller expects of the operations.
 --
---   modulus-done, sum-done, product-done, inverse-done, balanced-done, residue-done
+--   sum-done, product-done, inverse-done, balanced-done, residue-done
 --                          reply 0 is given exactly when the modulus and the operands are good
 --   inverse-undoes         a times its inverse is 1, as two calls
 --   balanced-in-range      a balanced value is above −p/2 and at most p/2
@@ -9,7 +9,6 @@
 --   residue-below          a residue is below p
 --   residue-same-from      the residue of n is the same as n
 --   residue-same-below     the residue of −(n + 1), with n + 1 added, is the same as 0
---   negative-same          p − a, reduced, is the same as (p − 1) · a: −a in two forms
 use Prim.Native.Nat.{ℕ, suc, _+_, _-_, _*_, _%_, _<_, _≤_}
 use mathlib.Core.Path.{_≡_, refl, _∙_, ap}
 use mathlib.Core.Bool.{Bool, true, _&&_}
@@ -21,13 +20,13 @@ use lib.Dec.{ltb}
 use lib.IntN.{ℤ, pos, negsuc}
 use borrow.Author.Tests.{ltb-true, lt-ltb, le-leb, lt-leb}
 use Rattle.algebra.specs.Residues.{Same, Prime}
-use Rattle.algebra.proofs.Residues.{same-eq, same-sym, same-trans, same-mod, same-multiple, same-add, same-cancel, same-minus}
+use Rattle.algebra.proofs.Residues.{same-eq, same-sym, same-trans, same-mod, same-multiple, same-add}
 use Rattle.algebra.proofs.Primes.{below-not-zero, inverse-law, inverse-below}
 use Rattle.field.specs.declared.Balance.{Balance}
-use Rattle.field.specs.Moduli.{limit, modulusOf}
+use Rattle.moduli.specs.Moduli.{limit}
 use Rattle.field.specs.Answers.{orRefused, value, noValue, fieldSumOf, fieldProductOf, inverseOf, balancedValue, balancedOf, residueValue, residueOf}
 use Rattle.algebra.proofs.Tests.{both-true}
-use Rattle.field.proofs.Moduli.{modulus-prime, modulus-within, modulus-of, modulus-passed}
+use Rattle.moduli.proofs.Moduli.{modulus-prime, modulus-within, modulus-of}
 use Rattle.field.proofs.Operands.{answer-passed}
 use Rattle.field.proofs.Signs.{subtracted}
 
@@ -42,11 +41,6 @@ done number refused k p good v z = (
   λ e. let h = answer-passed number refused k p good v e in ((modulus-prime (h .0), modulus-within (h .0)), h .1),
   λ h. rw (modulus-of (h .0 .0) (h .0 .1), h .1) z,
 )
-
-pub modulus-done : (p : ℕ) → (modulusOf p ≡ 0) ↔ (Prime p × (p ≤ limit))
-unfolding modulusOf
-modulus-done p =
-    (λ e. let m = modulus-passed p refl e in (modulus-prime m, modulus-within m), λ h. rw (modulus-of (h .0) (h .1)))
 
 bounds-done : (p x a y b v : ℕ) → (orRefused noValue p (ltb x a && ltb y b) (value v) .number ≡ 0) ↔ (Prime p × (p ≤ limit) × (x < a) × (y < b))
 bounds-done p x a y b v =
@@ -109,12 +103,6 @@ pub residue-below : (p : ℕ) (z : ℤ) → 0 < p → residueValue p z < p
 unfolding residueValue
 residue-below p (pos n) h = mod-lt n h
 residue-below p (negsuc n) h = mod-lt _ h
-
-pub negative-same : {p a : ℕ} → a < p → Same p ((p - a) % p) ((p - 1) * a)
-negative-same {p} {a} h =
-    let e : p - a + a ≡ 1 * p = omega arith in
-    same-trans (same-mod (p - a))
-    (same-cancel a (same-trans (same-eq e) (same-trans (same-multiple 1) (same-sym (same-trans (same-eq (omega arith)) (same-minus a (omega arith)))))))
 
 pub residue-same-from : (p n : ℕ) → Same p (residueValue p (pos n)) n
 unfolding residueValue

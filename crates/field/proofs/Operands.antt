@@ -13,7 +13,7 @@ use lib.Dec.{eqb, ltb}
 use borrow.Author.Tests.{ltb-true, eqb-true, eq-eqb, ne-eqb}
 use Rattle.algebra.specs.Residues.{pick}
 use Rattle.algebra.proofs.Tests.{both-true}
-use Rattle.field.specs.Moduli.{isModulus}
+use Rattle.moduli.specs.Moduli.{isModulus}
 use Rattle.field.specs.Answers.{refusalOf, orRefused}
 
 none-due : (modulus good : Bool) → pick {A = ℕ} modulus (pick good 0 6) 1 ≡ 0 → (modulus ≡ true) × (good ≡ true)

@@ -16,7 +16,7 @@ use mathlib.Core.Bool.{Bool, true, _&&_}
 use lib.Dec.{eqb, leb, ltb}
 use lib.IntN.{ℤ, pos, negsuc, subℕ}
 use Rattle.algebra.specs.Residues.{inverse, pick}
-use Rattle.field.specs.Moduli.{isModulus}
+use Rattle.moduli.specs.Moduli.{isModulus}
 use Rattle.field.specs.declared.Value.{Value}
 use Rattle.field.specs.declared.Balance.{Balance}
 

@@ -1,3 +1,2 @@
 -- What the field operations answer.
-pub mod Moduli
 pub mod Answers

@@ -2,9 +2,9 @@ ghost use mathlib.Core.Path.{_≡_};
 ghost use Rattle.field.specs.Answers.{balancedOf, residueOf};
 use crate::Balance;
 use crate::Value;
-use crate::primes::modulus;
+use moduli::modulus;
 use crate::refused;
-use crate::sums::neg_mod;
+use moduli::neg_mod;
 
 // The balanced value of a residue.
 pub fn balanced(p: u64, c: u64) -> Balance

@@ -1,26 +1,19 @@
-// Numbers modulo a prime p: the operations of RULES Field and Balanced, and the unchecked forms of them that loops call, for a
-// modulus and operands that are known to be good.
+// Numbers modulo a prime p: the operations of RULES Field and Balanced.
 ghost use mathlib.Core.Path.{_≡_};
 ghost use mathlib.Core.Bool.{_&&_};
 ghost use lib.Dec.{ltb};
-ghost use Rattle.field.specs.Answers.{refusalOf, noValue};
+ghost use Rattle.field.specs.Answers.{fieldSumOf, fieldProductOf, refusalOf, noValue};
 
 mod balances;
 mod inverses;
-mod primes;
-mod products;
-mod sums;
 
 pub use balances::balanced;
 pub use balances::residue;
 pub use inverses::inverse;
-pub use inverses::inverse_mod;
-pub use primes::modulus;
-pub use products::mul_mod;
-pub use products::product;
-pub use sums::add_mod;
-pub use sums::neg_mod;
-pub use sums::sum;
+
+use moduli::add_mod;
+use moduli::modulus;
+use moduli::mul_mod;
 
 // What an operation answers: reply 0 and the value, or the number of a refusal and 0.
 #[repr(C)]
@@ -34,6 +27,34 @@ pub struct Value {
 pub struct Balance {
     pub number: u64,
     pub value: i32,
+}
+
+// The sum of two residues.
+pub fn sum(p: u64, a: u64, b: u64) -> Value
+    ensures { λ r. ⌜ r ≡ fieldSumOf p a b ⌝ }
+{
+    let due = pair_refusal(p, a, b);
+    if due != 0 {
+        return refused(due);
+    }
+    Value {
+        number: 0,
+        value: add_mod(p, a, b),
+    }
+}
+
+// The product of two residues.
+pub fn product(p: u64, a: u64, b: u64) -> Value
+    ensures { λ r. ⌜ r ≡ fieldProductOf p a b ⌝ }
+{
+    let due = pair_refusal(p, a, b);
+    if due != 0 {
+        return refused(due);
+    }
+    Value {
+        number: 0,
+        value: mul_mod(p, a, b),
+    }
 }
 
 fn refused(number: u64) -> Value

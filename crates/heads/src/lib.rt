@@ -1,14 +1,14 @@
 // The greatest monomial of what remains: the dividend's next term, and all that waits in the tree at the same monomial.
 ghost use mathlib.Core.Path.{_≡_};
 ghost use Prim.Native.Nat.{_<_, _≤_, _^_, max};
-ghost use Rattle.field.specs.Moduli.{limit};
+ghost use Rattle.moduli.specs.Moduli.{limit};
 ghost use Rattle.poly.specs.Words.{records, wordAt};
 ghost use Rattle.poly.specs.Valid.{Valid};
 ghost use Rattle.tree.specs.Tree.{Live, Sides, Taken};
 ghost use Rattle.poly.specs.Keys.{keyAt};
 ghost use Rattle.heads.specs.Remaining.{Headed};
-use field::add_mod;
-use field::neg_mod;
+use moduli::add_mod;
+use moduli::neg_mod;
 use poly::keys::Head;
 use poly::keys::head_at;
 use poly::keys::key_at;

@@ -15,7 +15,7 @@ use borrow.Author.Tests.{ltb-true}
 use Rattle.algebra.specs.Residues.{Prime, inverse, pick}
 use Rattle.algebra.specs.Monomials.{Letters, exponent}
 use Rattle.algebra.specs.Polynomials.{Term, term, Poly}
-use Rattle.field.specs.Moduli.{limit}
+use Rattle.moduli.specs.Moduli.{limit}
 use Rattle.monomial.specs.Layout.{base, isMonomial, divides}
 use Rattle.monomial.proofs.Fields.{divides-fits}
 use Rattle.monomial.proofs.Laws.{read, write, fit, word-monomial, word-read, sum-monomial, sum-divides}

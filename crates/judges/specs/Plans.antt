@@ -12,7 +12,7 @@ use Rattle.algebra.specs.Residues.{Prime, inverse, pick}
 use Rattle.algebra.specs.Monomials.{Letters}
 use Rattle.algebra.specs.Polynomials.{Poly}
 use Rattle.algebra.specs.Walk.{Judges}
-use Rattle.field.specs.Moduli.{limit}
+use Rattle.moduli.specs.Moduli.{limit}
 use Rattle.monomial.specs.Layout.{base, isMonomial, wordDivides, fits, wordOf}
 use Rattle.poly.specs.Words.{records, coefAt, polyOf}
 use Rattle.poly.specs.Valid.{Valid}

@@ -3,13 +3,13 @@ ghost use mathlib.Core.Path.{_≡_};
 ghost use mathlib.Core.Bool.{true};
 ghost use Prim.Native.Nat.{_<_, _≤_, _^_};
 ghost use Rattle.algebra.specs.Residues.{Prime};
-ghost use Rattle.field.specs.Moduli.{limit};
+ghost use Rattle.moduli.specs.Moduli.{limit};
 ghost use Rattle.monomial.specs.Layout.{base, isMonomial};
 ghost use Rattle.poly.specs.Words.{records};
 ghost use Rattle.poly.specs.Valid.{Valid};
 ghost use Rattle.judges.specs.Judges.{unlessFull};
 ghost use Rattle.judges.specs.Plans.{quotientReply, remainderReply, Ready};
-use field::inverse_mod;
+use moduli::inverse_mod;
 use poly::numbers::choose;
 use poly::profile::largest_word;
 

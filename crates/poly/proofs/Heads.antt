@@ -25,7 +25,7 @@ use Rattle.algebra.proofs.Totals.{total, total-append, equal-by}
 use Rattle.algebra.proofs.NormalForm.{below-trans, equal-total}
 use Rattle.algebra.proofs.Ring.{total-negated}
 use Rattle.algebra.proofs.Sorted.{head-count}
-use Rattle.field.proofs.Laws.{negative-same}
+use Rattle.moduli.proofs.Moduli.{negative-same}
 use Rattle.poly.specs.Words.{records, wordAt, coefAt, span}
 use Rattle.poly.specs.Keys.{keyAt, headAt}
 use Rattle.poly.specs.declared.keys.Head.{Head}

@@ -2,7 +2,7 @@
 --
 --   measureOf s     the profile of a slice: term count, the four largest exponents, the largest total degree
 --   maxima f        the monomial with the largest exponent of each letter in f: M(f, v) for every v
-use Prim.Native.Nat.{ℕ, _-_}
+use Prim.Native.Nat.{ℕ}
 use mathlib.Core.List.{List, [], _∷_}
 use Rattle.algebra.specs.Monomials.{exponent, degree, Letters}
 use Rattle.algebra.specs.Polynomials.{largest, Poly}

@@ -5,7 +5,7 @@ ghost use Prim.Native.Nat.{ℕ, _*_, _^_, _<_, _≤_};
 ghost use lib.ListN.{length};
 ghost use Rattle.algebra.specs.Monomials.{exponent};
 ghost use Rattle.algebra.specs.Polynomials.{largest, mul};
-ghost use Rattle.field.specs.Moduli.{limit};
+ghost use Rattle.moduli.specs.Moduli.{limit};
 ghost use Rattle.monomial.specs.Layout.{base};
 ghost use Rattle.poly.specs.Words.{records, polyOf, span, cleared};
 ghost use Rattle.poly.specs.Valid.{Valid};

@@ -23,7 +23,7 @@ use borrow.Author.Tests.{ltb-true, ltb-false, leb-true, leb-false, eqb-true, eqb
 use Rattle.algebra.specs.Residues.{pick, first, FirstOf}
 use Rattle.algebra.proofs.Tests.{neither}
 use Rattle.algebra.proofs.Scan.{first-hit, first-miss, first-unique}
-use Rattle.field.specs.Moduli.{isModulus}
+use Rattle.moduli.specs.Moduli.{isModulus}
 use Rattle.monomial.specs.Layout.{base, isMonomial}
 use Rattle.poly.specs.Words.{records, wordAt, coefAt}
 use Rattle.refusals.specs.Reports.{none, refusal, Passed}

@@ -18,7 +18,7 @@ use mathlib.Core.List.{List, _∷_, _++_, map}
 use lib.Dec.{eqb, leb, ltb}
 use lib.ListN.{length}
 use Rattle.algebra.specs.Residues.{pick, first}
-use Rattle.field.specs.Moduli.{isModulus}
+use Rattle.moduli.specs.Moduli.{isModulus}
 use Rattle.monomial.specs.Layout.{Layout}
 use Rattle.poly.specs.Words.{records}
 use Rattle.faults.specs.Faults.{guardAt, orderAt, badCoefAt}

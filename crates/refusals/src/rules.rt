@@ -37,7 +37,7 @@ pub fn at_term(number: u64, operand: u64, index: u64, count: u64) -> Report
 pub fn modulus_rule(p: u64) -> Report
     ensures { λ r. ⌜ r ≡ modulusRule p ⌝ }
 {
-    unless(field::modulus(p) == 0, 1, 0)
+    unless(moduli::modulus(p) == 0, 1, 0)
 }
 
 // 2: odd length.

@@ -28,7 +28,7 @@ use Rattle.algebra.proofs.Scan.{first-within}
 use Rattle.algebra.proofs.All.{all-append, negated-all}
 use Rattle.algebra.proofs.Sorted.{alike-all, sorted-head, sorted-same}
 use Rattle.algebra.proofs.Clauses.{joined-quotient, joined-remainder, quotient-stopped, remainder-stopped, walk-skips, walk-quotient, walk-remainder}
-use Rattle.field.specs.Moduli.{limit}
+use Rattle.moduli.specs.Moduli.{limit}
 use Rattle.monomial.specs.Layout.{base, wordDivides}
 use Rattle.monomial.proofs.Laws.{read, monomial-fits, monomial-word, divides-iff, word-divides, sum-exponents}
 use Rattle.poly.specs.Words.{records, wordAt, coefAt, termAt, terms, span, polyOf, decodedPoly, Monomial}

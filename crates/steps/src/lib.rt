@@ -7,7 +7,7 @@ ghost use Rattle.poly.specs.Keys.{keyAt};
 ghost use Rattle.judges.specs.Plans.{Ready};
 ghost use Rattle.steps.specs.Walking.{Walking, RowPut, Stepped};
 use heads::take_head;
-use field::mul_mod;
+use moduli::mul_mod;
 use judges::Plan;
 use judges::judge_quotient;
 use judges::judge_remainder;

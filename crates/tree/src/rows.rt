@@ -3,7 +3,7 @@
 ghost use mathlib.Core.Path.{_≡_};
 ghost use Prim.Native.Nat.{ℕ, _+_, _*_, _-_, _<_, _≤_, _^_};
 ghost use lib.ListN.{length};
-ghost use Rattle.field.specs.Moduli.{limit};
+ghost use Rattle.moduli.specs.Moduli.{limit};
 ghost use Rattle.poly.specs.Words.{records, wordAt};
 ghost use Rattle.tree.specs.Tree.{Live, Sides, Settled, Greater, Next, Climbed, Taken, Added, Planted, Built, Started};
 

@@ -3,8 +3,8 @@ use mathlib.Core.Path.{_≡_}
 use mathlib.Core.Bool.{true}
 use borrow.Author.Needs.{needs}
 use borrow.Author.Tests.{lt-ltb, le-ltb}
-use Rattle.field.specs.Moduli.{isModulus}
-use Rattle.field.proofs.Moduli.{modulus-passed, modulus-refused}
+use Rattle.moduli.specs.Moduli.{isModulus}
+use Rattle.moduli.proofs.Moduli.{modulus-passed, modulus-refused}
 use Rattle.field.proofs.pair_refusal.Statement.{statement}
 use Rattle.field.proofs.pair_refusal.Tie as tie
 

@@ -8,9 +8,9 @@ use lib.IntN.{ℤ, pos, negsuc, _-ℤ_}
 use mir.Syntax.{w32}
 use mir.Val.{toZ}
 use mir.ValLaws.{toZ-pos, toZ-ofZ}
-use Rattle.field.specs.Moduli.{limit, isModulus}
+use Rattle.moduli.specs.Moduli.{limit, isModulus}
 use Rattle.field.specs.Answers.{balancedValue, balancedOf}
-use Rattle.field.proofs.Moduli.{modulus-within, modulus-passed, modulus-refused}
+use Rattle.moduli.proofs.Moduli.{modulus-within, modulus-passed, modulus-refused}
 use Rattle.field.proofs.Signs.{negated}
 use Rattle.field.proofs.balances.balanced.Statement.{statement}
 use Rattle.field.proofs.balances.balanced.Tie as tie

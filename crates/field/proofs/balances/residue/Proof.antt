@@ -9,9 +9,9 @@ use lib.Signed.{mag, leZ}
 use mir.Syntax.{w32}
 use mir.Val.{toZ, ofZ}
 use mir.ValLaws.{toZ-ofZ}
-use Rattle.field.specs.Moduli.{isModulus}
+use Rattle.moduli.specs.Moduli.{isModulus}
 use Rattle.field.specs.Answers.{value, residueOf}
-use Rattle.field.proofs.Moduli.{modulus-prime, modulus-passed, modulus-refused}
+use Rattle.moduli.proofs.Moduli.{modulus-prime, modulus-passed, modulus-refused}
 use Rattle.field.proofs.Signs.{from-zero, mirrored, residue-from-zero, residue-below-zero}
 use Rattle.field.proofs.balances.residue.Statement.{statement}
 use Rattle.field.proofs.balances.residue.Tie as tie

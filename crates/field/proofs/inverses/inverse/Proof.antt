@@ -3,9 +3,9 @@ use mathlib.Core.Bool.{true}
 use native.Mathlib.Nat.{pos-of-ne-zero}
 use borrow.Author.Needs.{needs}
 use borrow.Author.Tests.{lt-ltb, le-ltb}
-use Rattle.field.specs.Moduli.{isModulus}
+use Rattle.moduli.specs.Moduli.{isModulus}
 use Rattle.field.specs.Answers.{value, inverseOf}
-use Rattle.field.proofs.Moduli.{modulus-prime, modulus-within, modulus-passed, modulus-refused}
+use Rattle.moduli.proofs.Moduli.{modulus-prime, modulus-within, modulus-passed, modulus-refused}
 use Rattle.field.proofs.inverses.inverse.Statement.{statement}
 use Rattle.field.proofs.inverses.inverse.Tie as tie
 

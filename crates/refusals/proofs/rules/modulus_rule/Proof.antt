@@ -1,7 +1,7 @@
 -- `refusals::rules::modulus_rule` meets its contract.
 use mathlib.Core.Path.{_∙_, ap}
 use Rattle.refusals.specs.Rules.{modulusRule, unless}
-use Rattle.field.proofs.Moduli.{modulus-test}
+use Rattle.moduli.proofs.Moduli.{modulus-test}
 use borrow.Author.Needs.{needs}
 use Rattle.refusals.proofs.rules.modulus_rule.Statement.{statement}
 use Rattle.refusals.proofs.rules.modulus_rule.Tie as tie

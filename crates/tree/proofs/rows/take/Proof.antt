@@ -2,7 +2,7 @@
 use Prim.Native.Nat.{_*_, _^_, _<_}
 use native.Mathlib.Omega.{arith}
 use lib.ListN.{length}
-use Rattle.field.proofs.Bounds.{product-small}
+use Rattle.moduli.proofs.Bounds.{product-small}
 use Rattle.poly.specs.Words.{records, coefAt}
 use Rattle.tree.specs.Tree.{tagAt, rowOf, columnOf, awaited}
 use Rattle.tree.proofs.Taking.{Taking, Hand, hand, taken, length-weigh, take-starts, take-steps, take-ends}

@@ -1,0 +1,2 @@
+-- Which numbers are moduli.
+pub mod Moduli
