@@ -24,7 +24,8 @@ use Rattle.calls.specs.Outcomes.{Outcome}
 use Rattle.product.specs.Products.{multiplied, productOf}
 use Rattle.division.specs.Division.{divideOf, testOf}
 use Rattle.judges.specs.Judges.{steps}
-use Rattle.claims.specs.Sheet.{Row, product, division, divideTest, balanced, Holds, AllHold, sameWords, sameReport, sameOutcome, sameNumber, sameBalance, right, allRight, rows}
+use Rattle.claims.specs.Sheet.{Row, product, division, divideTest, balanced, Holds, AllHold, sameNumber, sameBalance, right, allRight, rows}
+use Rattle.compared.specs.Compared.{sameWords, sameReport, sameOutcome}
 
 pub sheet : allRight rows ≡ true
 unfolding productOf multiplied divideOf testOf steps polyOf isMonomial isPrime inverse isModulus decLt modulusRule oddRule longRule guardRule guardAt

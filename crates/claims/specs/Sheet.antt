@@ -80,22 +80,6 @@ AllHold (row ∷ rest) = Holds row × AllHold rest
 
 -- The same as a test
 
-abbrev pub sameWords : List ℕ → List ℕ → Bool
-sameWords [] [] = true
-sameWords [] (w ∷ ws) = false
-sameWords (v ∷ vs) [] = false
-sameWords (v ∷ vs) (w ∷ ws) = eqb v w && sameWords vs ws
-
-abbrev pub sameReport : Report → Report → Bool
-sameReport r s =
-    eqb (r .number) (s .number)
-    && (eqb (r .operand) (s .operand) && (eqb (r .index) (s .index) && (eqb (r .first) (s .first) && eqb (r .second) (s .second))))
-
-abbrev pub sameOutcome : Outcome → Outcome → Bool
-sameOutcome a b =
-    sameReport (a .report) (b .report)
-    && (sameWords (a .first) (b .first) && (sameWords (a .second) (b .second) && sameWords (a .work) (b .work)))
-
 abbrev pub sameNumber : ℤ → ℤ → Bool
 sameNumber (pos m) (pos n) = eqb m n
 sameNumber (pos m) (negsuc n) = false

@@ -4,7 +4,7 @@ ghost use Prim.Native.Nat.{_*_, _+_, _<_};
 ghost use lib.ListN.{length};
 ghost use Rattle.monomial.specs.Layout.{base};
 ghost use Rattle.faults.specs.Faults.{guardAt, orderAt, badCoefAt, faultsOf};
-use poly::numbers::choose;
+use numbers::choose;
 
 // The first term with each kind of fault; the number of terms where there is none.
 pub struct Faults {

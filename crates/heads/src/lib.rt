@@ -12,7 +12,7 @@ use moduli::neg_mod;
 use poly::keys::Head;
 use poly::keys::head_at;
 use poly::keys::key_at;
-use poly::numbers::greater;
+use numbers::greater;
 use tree::rows::take;
 
 // Takes the greatest monomial, whose key is given, out of what remains.

@@ -10,7 +10,7 @@ ghost use Rattle.poly.specs.Valid.{Valid};
 ghost use Rattle.judges.specs.Judges.{unlessFull};
 ghost use Rattle.judges.specs.Plans.{quotientReply, remainderReply, Ready};
 use moduli::inverse_mod;
-use poly::numbers::choose;
+use numbers::choose;
 use poly::profile::largest_word;
 
 // Whether the call is the divide test; the words of the largest exponents of divisor and dividend, the second 0 where no test reads

@@ -12,7 +12,7 @@ use moduli::add_mod;
 use moduli::neg_mod;
 use poly::keys::head_at;
 use poly::keys::key_at;
-use poly::numbers::greater;
+use numbers::greater;
 use poly::room::put_term;
 
 // The greatest monomial that is left of two inputs, its coefficient, and the places in both behind it.

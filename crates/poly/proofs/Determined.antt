@@ -7,9 +7,6 @@ use mathlib.Core.Path.{_≡_, sym, _∙_}
 use denote.Ref.{now}
 use Rattle.poly.proofs.profile.measure.Reads as measure
 use Rattle.poly.proofs.room.clear.Reads as clear
-use Rattle.poly.proofs.numbers.greater.Reads as greater
-use Rattle.poly.proofs.numbers.smaller.Reads as smaller
-use Rattle.poly.proofs.numbers.choose.Reads as choose
 
 pub measure-asks-nothing : (κs : _) (a : _) → measure.Pre κs a
 measure-asks-nothing κs a = tt
@@ -22,21 +19,3 @@ clear-asks-nothing κs a = tt
 
 pub clear-determined : (κs : _) (a : _) (r r′ : _) (s s′ : _) → clear.Post κs a r s → clear.Post κs a r′ s′ → now (s .0) ≡ now (s′ .0)
 clear-determined κs a r r′ s s′ p q = p ∙ sym q
-
-pub greater-asks-nothing : (κs : _) (a : _) → greater.Pre κs a
-greater-asks-nothing κs a = tt
-
-pub greater-determined : (κs : _) (a : _) (r r′ : _) (s s′ : _) → greater.Post κs a r s → greater.Post κs a r′ s′ → r ≡ r′
-greater-determined κs a r r′ s s′ p q = p ∙ sym q
-
-pub smaller-asks-nothing : (κs : _) (a : _) → smaller.Pre κs a
-smaller-asks-nothing κs a = tt
-
-pub smaller-determined : (κs : _) (a : _) (r r′ : _) (s s′ : _) → smaller.Post κs a r s → smaller.Post κs a r′ s′ → r ≡ r′
-smaller-determined κs a r r′ s s′ p q = p ∙ sym q
-
-pub choose-asks-nothing : (κs : _) (a : _) → choose.Pre κs a
-choose-asks-nothing κs a = tt
-
-pub choose-determined : (κs : _) (a : _) (r r′ : _) (s s′ : _) → choose.Post κs a r s → choose.Post κs a r′ s′ → r ≡ r′
-choose-determined κs a r r′ s s′ p q = p ∙ sym q

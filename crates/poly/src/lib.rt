@@ -1,5 +1,4 @@
 // Polynomials in memory: records of words, rooms, keys, the largest exponents.
 pub mod keys;
-pub mod numbers;
 pub mod profile;
 pub mod room;

@@ -18,7 +18,7 @@ use calls::ending::leave;
 use calls::ending::report_of;
 use calls::ending::room_reply;
 use calls::inputs::two_inputs;
-use poly::numbers::smaller;
+use numbers::smaller;
 use poly::profile::measure;
 use poly::room::clear;
 use poly::room::put_term;

@@ -10,10 +10,9 @@ use mathlib.Core.List.{List}
 use lib.ListN.{length, take}
 use Rattle.refusals.specs.declared.report.Report.{Report}
 use Rattle.calls.specs.Outcomes.{Outcome, outcome}
-use Rattle.claims.specs.Sheet.{sameOutcome}
-use Rattle.rows.specs.Cases.{allDirt, AsLent, said}
-use Rattle.rows.specs.declared.outcomes.Tried.{Tried}
-use Rattle.rows.proofs.Arrays.{lent-long, part-lent}
+use Rattle.compared.specs.Compared.{sameOutcome, allDirt, AsLent, said}
+use Rattle.rows.specs.declared.Tried.{Tried}
+use Rattle.compared.proofs.Arrays.{lent-long, part-lent}
 
 abbrev pub trialOf : Outcome → Outcome → Tried
 trialOf o leaves = record { number = o .report .number; right = sameOutcome o leaves }

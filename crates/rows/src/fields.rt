@@ -2,9 +2,9 @@
 ghost use mathlib.Core.Path.{_≡_};
 ghost use Rattle.claims.specs.Sheet.{sameNumber, balanced, balance};
 ghost use Rattle.rows.specs.Cases.{trial, modulusTrial};
-use crate::outcomes::Tried;
-use crate::words::both;
-use crate::words::same_report;
+use crate::Tried;
+use compared::words::both;
+use compared::words::same_report;
 use refusals::report::Report;
 use services::check::check;
 

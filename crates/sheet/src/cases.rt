@@ -14,7 +14,7 @@ use crate::text::print_words;
 use crate::text::write;
 use refusals::report::Report;
 use refusals::report::done;
-use rows::outcomes::Tried;
+use rows::Tried;
 use rows::polys::division_tried;
 use rows::polys::product_tried;
 use rows::polys::test_tried;

@@ -1,7 +1,8 @@
 // The rows on moduli and on balanced values.
 ghost use mathlib.Core.Path.{_≡_};
 ghost use Rattle.services.specs.Services.{checkOf};
-ghost use Rattle.claims.specs.Sheet.{sameReport, balanced, balance, right};
+ghost use Rattle.compared.specs.Compared.{sameReport};
+ghost use Rattle.claims.specs.Sheet.{balanced, balance, right};
 use crate::text::print_head;
 use crate::text::print_poly;
 use crate::text::print_reply;
@@ -10,7 +11,7 @@ use crate::text::write;
 use refusals::report::Report;
 use rows::fields::balanced_tried;
 use rows::fields::modulus_tried;
-use rows::outcomes::Tried;
+use rows::Tried;
 
 // A modulus, tried by the check of a polynomial.
 pub fn modulus_case(p: u64, a: &[u64], says: Report) -> bool

@@ -1,6 +1,6 @@
 // What a line is made of. Polynomials are written as in RULES Text: each coefficient, then the letters that have an exponent.
 use monomial::exponent;
-use rows::outcomes::Tried;
+use rows::Tried;
 
 pub fn write(text: &[u8]) {
     io::write_all(1, text);

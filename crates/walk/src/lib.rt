@@ -9,7 +9,7 @@ use heads::greatest_key;
 use steps::State;
 use steps::step;
 use judges::Plan;
-use poly::numbers::smaller;
+use numbers::smaller;
 use poly::room::clear;
 use growth::grow;
 

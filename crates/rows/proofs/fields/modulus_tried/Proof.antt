@@ -2,7 +2,7 @@
 use mathlib.Core.Path.{_∙_, ap}
 use borrow.Author.Needs.{needs}
 use Rattle.refusals.specs.declared.report.Report.{Report}
-use Rattle.claims.specs.Sheet.{sameReport}
+use Rattle.compared.specs.Compared.{sameReport}
 use Rattle.rows.proofs.fields.modulus_tried.Statement.{statement}
 use Rattle.rows.proofs.fields.modulus_tried.Tie as tie
 

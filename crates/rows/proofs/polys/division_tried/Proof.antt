@@ -3,7 +3,7 @@ use Prim.Native.Nat.{_*_}
 use borrow.Author.Needs.{needs}
 use denote.Ref.{now}
 use Rattle.division.specs.Division.{divideOf}
-use Rattle.rows.proofs.Arrays.{part-long}
+use Rattle.compared.proofs.Arrays.{part-long}
 use Rattle.rows.proofs.Said.{tried-lent}
 use Rattle.rows.proofs.polys.division_tried.Statement.{statement}
 use Rattle.rows.proofs.polys.division_tried.Tie as tie

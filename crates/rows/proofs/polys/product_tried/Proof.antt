@@ -5,7 +5,7 @@ use native.Mathlib.Omega.{arith}
 use borrow.Author.Needs.{needs}
 use denote.Ref.{now}
 use Rattle.product.specs.Products.{productOf}
-use Rattle.rows.proofs.Arrays.{part-long}
+use Rattle.compared.proofs.Arrays.{part-long}
 use Rattle.rows.proofs.Said.{tried-lent}
 use Rattle.rows.proofs.polys.product_tried.Statement.{statement}
 use Rattle.rows.proofs.polys.product_tried.Tie as tie

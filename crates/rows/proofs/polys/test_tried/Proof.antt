@@ -5,7 +5,7 @@ use native.Mathlib.Omega.{arith}
 use borrow.Author.Needs.{needs}
 use denote.Ref.{now}
 use Rattle.division.specs.Division.{testOf}
-use Rattle.rows.proofs.Arrays.{part-long}
+use Rattle.compared.proofs.Arrays.{part-long}
 use Rattle.rows.proofs.Said.{tried-lent}
 use Rattle.rows.proofs.polys.test_tried.Statement.{statement}
 use Rattle.rows.proofs.polys.test_tried.Tie as tie

@@ -5,7 +5,7 @@ use denote.Ref.{now}
 use Rattle.refusals.specs.declared.report.Report.{Report}
 use Rattle.claims.specs.Sheet.{Row, right}
 use Rattle.rows.specs.Cases.{divisionRow}
-use Rattle.rows.specs.declared.outcomes.Tried.{Tried}
+use Rattle.rows.specs.declared.Tried.{Tried}
 use Rattle.sheet.proofs.cases.array_case.Statement.{statement}
 use Rattle.sheet.proofs.cases.array_case.Tie as tie
 

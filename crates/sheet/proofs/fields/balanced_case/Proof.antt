@@ -5,7 +5,7 @@ use mir.Syntax.{w32}
 use mir.ValLaws.{toZ-ofZ}
 use borrow.Author.Needs.{needs}
 use Rattle.claims.specs.Sheet.{balanced, balance, right}
-use Rattle.rows.specs.declared.outcomes.Tried.{Tried}
+use Rattle.rows.specs.declared.Tried.{Tried}
 use Rattle.sheet.proofs.fields.balanced_case.Statement.{statement}
 use Rattle.sheet.proofs.fields.balanced_case.Tie as tie
 

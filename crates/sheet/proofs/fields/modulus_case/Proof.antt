@@ -1,7 +1,7 @@
 -- `sheet::fields::modulus_case` meets its contract.
 use mathlib.Core.Path.{ap}
 use borrow.Author.Needs.{needs}
-use Rattle.rows.specs.declared.outcomes.Tried.{Tried}
+use Rattle.rows.specs.declared.Tried.{Tried}
 use Rattle.sheet.proofs.fields.modulus_case.Statement.{statement}
 use Rattle.sheet.proofs.fields.modulus_case.Tie as tie
 

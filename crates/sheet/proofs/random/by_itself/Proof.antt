@@ -6,7 +6,7 @@ use denote.Ref.{now}
 use Rattle.refusals.specs.declared.report.Report.{Report}
 use Rattle.claims.specs.Sheet.{right}
 use Rattle.rows.specs.Cases.{divisionRow}
-use Rattle.rows.specs.declared.outcomes.Tried.{Tried}
+use Rattle.rows.specs.declared.Tried.{Tried}
 use Rattle.sheet.proofs.random.by_itself.Statement.{statement}
 use Rattle.sheet.proofs.random.by_itself.Tie as tie
 

@@ -1,7 +1,7 @@
 -- `rows::outcomes::outcome_said` meets its contract.
 use borrow.Author.Needs.{needs}
-use Rattle.rows.proofs.outcomes.outcome_said.Statement.{statement}
-use Rattle.rows.proofs.outcomes.outcome_said.Tie as tie
+use Rattle.compared.proofs.outcomes.outcome_said.Statement.{statement}
+use Rattle.compared.proofs.outcomes.outcome_said.Tie as tie
 
 rest-of-requires : tie.Need-rest-of-requires
 rest-of-requires c κs = search needs

@@ -1,8 +1,8 @@
 -- `rows::words::lent_words` meets its contract.
 use mathlib.Core.Path.{refl}
-use Rattle.rows.specs.Cases.{allDirt}
-use Rattle.rows.proofs.words.lent_words.Statement.{statement}
-use Rattle.rows.proofs.words.lent_words.Tie as tie
+use Rattle.compared.specs.Compared.{allDirt}
+use Rattle.compared.proofs.words.lent_words.Statement.{statement}
+use Rattle.compared.proofs.words.lent_words.Tie as tie
 
 returns : tie.Need-returns
 unfolding allDirt

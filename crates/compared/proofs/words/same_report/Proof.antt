@@ -1,7 +1,7 @@
 -- `rows::words::same_report` meets its contract.
 use borrow.Author.Needs.{needs}
-use Rattle.rows.proofs.words.same_report.Statement.{statement}
-use Rattle.rows.proofs.words.same_report.Tie as tie
+use Rattle.compared.proofs.words.same_report.Statement.{statement}
+use Rattle.compared.proofs.words.same_report.Tie as tie
 
 both-requires : tie.Need-both-requires
 both-requires c κs = search needs

@@ -3,9 +3,9 @@ use Prim.Native.Nat.{ℕ, _<_, _≤_}
 use mathlib.Core.Path.{_≡_, sym, ap}
 use native.Mathlib.Omega.{arith}
 use borrow.Author.Tests.{lt-ltb, le-ltb}
-use Rattle.rows.specs.Cases.{dirt, restOf}
-use Rattle.rows.proofs.words.rest_of.Statement.{statement}
-use Rattle.rows.proofs.words.rest_of.Tie as tie
+use Rattle.compared.specs.Compared.{dirt, restOf}
+use Rattle.compared.proofs.words.rest_of.Statement.{statement}
+use Rattle.compared.proofs.words.rest_of.Tie as tie
 
 as-lent : (n : ℕ) → 0 < n → n < 9 → dirt ≡ restOf n
 as-lent n h k = rw (lt-ltb 0 n h, lt-ltb n 9 k)

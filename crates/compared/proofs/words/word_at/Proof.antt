@@ -2,9 +2,9 @@
 use mathlib.Core.Path.{sym}
 use borrow.Author.Needs.{needs}
 use denote.Ref.{now}
-use Rattle.rows.proofs.Arrays.{word-within, word-behind}
-use Rattle.rows.proofs.words.word_at.Statement.{statement}
-use Rattle.rows.proofs.words.word_at.Tie as tie
+use Rattle.compared.proofs.Arrays.{word-within, word-behind}
+use Rattle.compared.proofs.words.word_at.Statement.{statement}
+use Rattle.compared.proofs.words.word_at.Tie as tie
 
 mul-result : tie.Need-mul-result
 mul-result c = search needs

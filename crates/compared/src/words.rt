@@ -2,8 +2,7 @@
 ghost use mathlib.Core.Path.{_≡_};
 ghost use mathlib.Core.Bool.{_&&_};
 ghost use lib.ListN.{length, getD};
-ghost use Rattle.claims.specs.Sheet.{sameReport, sameWords};
-ghost use Rattle.rows.specs.Cases.{AsLent, followed, restOf};
+ghost use Rattle.compared.specs.Compared.{sameReport, sameWords, AsLent, followed, restOf};
 use refusals::report::Report;
 
 // What every word of an array is when it is lent.

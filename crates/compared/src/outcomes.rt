@@ -2,8 +2,7 @@
 ghost use mathlib.Core.Path.{_≡_};
 ghost use lib.ListN.{length};
 ghost use Rattle.calls.specs.Outcomes.{outcome};
-ghost use Rattle.claims.specs.Sheet.{sameOutcome};
-ghost use Rattle.rows.specs.Cases.{said};
+ghost use Rattle.compared.specs.Compared.{sameOutcome, said};
 use crate::words::both;
 use crate::words::holds;
 use crate::words::rest_of;
@@ -12,12 +11,6 @@ use refusals::report::Report;
 
 // What is written where nothing is, and an array that a call does not have.
 pub const ZERO: [u64; 0] = [];
-
-// A row tried: the number that the call answered, and whether its report and every word that it left are as the row says.
-pub struct Tried {
-    pub number: u64,
-    pub right: bool,
-}
 
 // The report, the outputs and the work array, beside the report that the row says and the words that it says are written.
 pub fn outcome_said(

@@ -18,8 +18,7 @@ use lib.Dec.{eqb}
 use lib.ListN.{length, getD, take, drop, replicate, length-append, length-replicate, getD-replicate}
 use lib.Seq.{drop-cons, drop-length}
 use borrow.Author.Tests.{eq-eqb, ne-eqb}
-use Rattle.claims.specs.Sheet.{sameWords}
-use Rattle.rows.specs.Cases.{dirt, allDirt, AsLent, followed}
+use Rattle.compared.specs.Compared.{sameWords, dirt, allDirt, AsLent, followed}
 
 -- What an array has to hold
 

@@ -6,10 +6,10 @@ use native.Mathlib.Omega.{arith}
 use lib.ListN.{length, getD}
 use borrow.Author.Needs.{needs}
 use denote.Ref.{now}
-use Rattle.rows.specs.Cases.{followed}
-use Rattle.rows.proofs.Arrays.{followed-long, followed-word, too-short, Agree, agree-none, agree-more, differ, agree-all}
-use Rattle.rows.proofs.words.holds.Statement.{statement}
-use Rattle.rows.proofs.words.holds.Tie as tie
+use Rattle.compared.specs.Compared.{followed}
+use Rattle.compared.proofs.Arrays.{followed-long, followed-word, too-short, Agree, agree-none, agree-more, differ, agree-all}
+use Rattle.compared.proofs.words.holds.Statement.{statement}
+use Rattle.compared.proofs.words.holds.Tie as tie
 
 abbrev Inv-loop : tie.InvT-loop
 Inv-loop s written rest i₀ i = Agree s (followed written rest (length s)) i

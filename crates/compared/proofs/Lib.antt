@@ -1,0 +1,3 @@
+-- Laws of arrays compared.
+pub mod Arrays
+pub mod Determined

@@ -1,0 +1,3 @@
+// Reports and arrays compared, word by word, with what a row of the sheet says.
+pub mod outcomes;
+pub mod words;

@@ -1,0 +1,2 @@
+-- What is said of contracts.
+pub mod Determined
