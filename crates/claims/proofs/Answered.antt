@@ -11,6 +11,7 @@ use Rattle.field.proofs.product.Reads as field-product
 use Rattle.field.proofs.inverse.Reads as inverse
 use Rattle.field.proofs.balanced.Reads as balanced
 use Rattle.field.proofs.residue.Reads as residue
+use Rattle.moduli.proofs.Determined as moduli
 use Rattle.field.proofs.Determined as fields
 use Rattle.monomial.proofs.pack.Reads as pack
 use Rattle.monomial.proofs.unpack.Reads as unpack
@@ -31,7 +32,7 @@ use Rattle.calls.specs.Outcomes.{outcome}
 use Rattle.claims.specs.Demands.{Answered}
 
 pub modulus-answered : (κs : _) (x : _) → Answered (modulus.Pre κs x) (modulus.Post κs x) (λ r s. r)
-modulus-answered κs x = record { any = fields.modulus-asks-nothing κs x; one = fields.modulus-determined κs x }
+modulus-answered κs x = record { any = moduli.modulus-asks-nothing κs x; one = moduli.modulus-determined κs x }
 
 pub field-sum-answered : (κs : _) (x : _) → Answered (field-sum.Pre κs x) (field-sum.Post κs x) (λ r s. r)
 field-sum-answered κs x = record { any = fields.sum-asks-nothing κs x; one = fields.sum-determined κs x }

@@ -38,7 +38,8 @@ use Rattle.calls.proofs.Endings.{firstOf, Ends, told-stopped, told-finished, re
 use Rattle.judges.specs.Judges.{testJudges, walkBy}
 use Rattle.judges.specs.Stops.{StoppedAt, TestDue}
 use Rattle.walk.proofs.Runs.{divisor-terms}
-use Rattle.division.specs.Division.{testRules, testWalk, testOf}
+use Rattle.division.specs.Division.{testRules, testOf}
+use Rattle.quotients.specs.Quotients.{testWalk}
 use Rattle.division.proofs.Walkable.{Walkable, rules-walkable}
 use Rattle.division.proofs.test.divides.Reads as call
 use Rattle.claims.specs.Demands.{P, Afterwards, front, lead, Factor, termCount}

@@ -43,7 +43,8 @@ use Rattle.calls.proofs.Endings.{firstOf, Ends, told-stopped, told-finished, re
 use Rattle.judges.specs.Judges.{divisionJudges, walkBy}
 use Rattle.judges.specs.Stops.{StoppedAt, DivisionDue}
 use Rattle.walk.proofs.Runs.{divisor-terms}
-use Rattle.division.specs.Division.{lastRules, divideRules, divisionWalk, divideOf}
+use Rattle.division.specs.Division.{lastRules, divideRules, divideOf}
+use Rattle.quotients.specs.Quotients.{divisionWalk}
 use Rattle.division.proofs.Walkable.{Walkable, rules-walkable}
 use Rattle.division.proofs.division.divide.Reads as call
 use Rattle.claims.specs.Demands.{P, Afterwards, front, lead, Pair}

@@ -47,8 +47,9 @@ use Rattle.calls.specs.Inputs.{inputs, twoInputs}
 use Rattle.calls.specs.Outcomes.{outcome, roomReply}
 use Rattle.calls.proofs.Refusals.{Good, rules-good}
 use Rattle.calls.proofs.Endings.{firstOf, Ends, told-finished, refuses, replies, ends-unchanged, ends-cleared, ends-written}
-use Rattle.product.specs.Products.{burstAt, Bursts, productReply, productRules, multiplied, productOf}
-use Rattle.product.proofs.Bursts.{burst-some, no-burst, products-fit}
+use Rattle.expansion.specs.Bursts.{burstAt, Bursts}
+use Rattle.product.specs.Products.{productReply, productRules, multiplied, productOf}
+use Rattle.expansion.proofs.Bursts.{burst-some, no-burst, products-fit}
 use Rattle.product.proofs.product.Reads as call
 use Rattle.claims.specs.Demands.{P, Afterwards, front, Result, termCount}
 

@@ -27,6 +27,7 @@ use Rattle.poly.specs.Words.{wordsOf}
 use Rattle.refusals.specs.declared.report.Report.{Report}
 use Rattle.calls.specs.Outcomes.{Outcome, outcome}
 use Rattle.product.specs.Products.{productOf}
+use Rattle.compared.specs.Compared.{sameOutcome}
 use Rattle.division.specs.Division.{divideOf, testOf}
 
 infix 70 _x^_

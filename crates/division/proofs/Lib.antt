@@ -1,4 +1,3 @@
 -- Laws of division.
 pub mod Walkable
-pub mod WalkedRooms
 pub mod Determined

@@ -2,21 +2,17 @@
 --
 --   lastRules g q work           the refusals 7 and 8: the divisor is zero; the work has fewer than four words for each term of q
 --   divideRules, testRules       the refusals 1 to 8 of each call
---   divisionWalk, testWalk       the walk of each call, with the terms that its rooms can hold
---   divided, tested              what each call leaves where none of 1 to 8 is due
 --   divideOf p f g q r work      division of f by g, with the rooms q and r
 --   testOf p f g q work          the divide test of f by g, with the room q
 use Prim.Native.Nat.{ℕ, _*_}
 use mathlib.Core.List.{List, [], _∷_, _++_}
-use Rattle.algebra.specs.Monomials.{Letters}
-use Rattle.algebra.specs.Walk.{Walked}
 use Rattle.monomial.specs.Layout.{base}
-use Rattle.poly.specs.Words.{records, polyOf}
+use Rattle.poly.specs.Words.{records}
 use Rattle.refusals.specs.Rules.{lent, inputTerms, roomTerms, refusals, divisorRule, workRule}
 use Rattle.refusals.specs.declared.report.Report.{Report}
-use Rattle.calls.specs.Outcomes.{Outcome, ended, called}
+use Rattle.calls.specs.Outcomes.{Outcome, called}
 use Rattle.calls.specs.Inputs.{inputs}
-use Rattle.judges.specs.Judges.{divisionJudges, testJudges, walkBy}
+use Rattle.quotients.specs.Quotients.{divisionWalk, testWalk}
 
 abbrev pub lastRules : List ℕ → List ℕ → List ℕ → List Report
 lastRules g q work = divisorRule g ∷ workRule (4 * records q) work ∷ []
@@ -25,12 +21,6 @@ lastRules g q work = divisorRule g ∷ workRule (4 * records q) work ∷ []
 
 abbrev pub divideRules : ℕ → List ℕ → List ℕ → List ℕ → List ℕ → List ℕ → List Report
 divideRules p f g q r work = refusals base p (inputs f g) (lent 3 q inputTerms ∷ lent 4 r roomTerms ∷ []) ++ lastRules g q work
-
-abbrev pub divisionWalk : ℕ → List ℕ → List ℕ → List ℕ → List ℕ → Walked (Letters 4)
-divisionWalk p f g q r = walkBy p (divisionJudges (polyOf base g) (records q) (records r)) (polyOf base f) (polyOf base g)
-
-abbrev pub divided : ℕ → List ℕ → List ℕ → List ℕ → List ℕ → List ℕ → Outcome
-divided p f g q r work = let w = divisionWalk p f g q r in ended (w .reply) (w .quotient) (w .remainder) q r work
 
 unfoldable pub divideOf : ℕ → List ℕ → List ℕ → List ℕ → List ℕ → List ℕ → Outcome
 divideOf p f g q r work =
@@ -41,12 +31,6 @@ divideOf p f g q r work =
 
 abbrev pub testRules : ℕ → List ℕ → List ℕ → List ℕ → List ℕ → List Report
 testRules p f g q work = refusals base p (inputs f g) (lent 3 q inputTerms ∷ []) ++ lastRules g q work
-
-abbrev pub testWalk : ℕ → List ℕ → List ℕ → List ℕ → Walked (Letters 4)
-testWalk p f g q = walkBy p (testJudges (polyOf base f) (polyOf base g) (records q)) (polyOf base f) (polyOf base g)
-
-abbrev pub tested : ℕ → List ℕ → List ℕ → List ℕ → List ℕ → Outcome
-tested p f g q work = let w = testWalk p f g q in ended (w .reply) (w .quotient) [] q [] work
 
 unfoldable pub testOf : ℕ → List ℕ → List ℕ → List ℕ → List ℕ → Outcome
 testOf p f g q work =

@@ -1,24 +1,13 @@
 // Division with remainder.
 ghost use mathlib.Core.Path.{_≡_};
-ghost use Prim.Native.Nat.{_*_, _<_, _≤_};
-ghost use lib.ListN.{length};
-ghost use Rattle.algebra.specs.Residues.{Prime};
-ghost use Rattle.moduli.specs.Moduli.{limit};
-ghost use Rattle.poly.specs.Words.{records};
-ghost use Rattle.poly.specs.Valid.{Valid};
-ghost use Rattle.refusals.specs.Rules.{inputTerms};
 ghost use Rattle.calls.specs.Outcomes.{outcome};
-ghost use Rattle.division.specs.Division.{divideOf, divided};
+ghost use Rattle.division.specs.Division.{divideOf};
 use crate::rules::last_rules;
-use calls::ending::leave;
-use calls::ending::report_of;
 use calls::inputs::two_inputs;
-use judges::prepare;
-use poly::room::clear;
+use quotients::division::divide_good;
 use refusals::report::Report;
 use refusals::rules::INPUT_TERMS;
 use refusals::rules::ROOM_TERMS;
-use walk::run;
 
 // The quotient and the remainder of f by g in the rooms q and r, with four work words for each term of the quotient room.
 pub fn divide(
@@ -40,27 +29,4 @@ pub fn divide(
         return due;
     }
     divide_good(p, f, g, q, r, work)
-}
-
-// The division where none of 1 to 8 is due. The quotient room is cleared before, since its records are the rows of the tree.
-fn divide_good(
-    p: u64,
-    f: &[u64],
-    g: &[u64],
-    q: &mut [u64],
-    r: &mut [u64],
-    work: &mut [u64],
-) -> Report
-    requires { ⌜ (Prime p) × (p ≤ limit) × (Valid p (now f)) × (Valid p (now g)) × (0 < records (now g)) × (records (now g) ≤ inputTerms) ⌝ }
-    requires { ⌜ (records (now q) ≤ inputTerms) × (4 * records (now q) ≤ length (now work)) ⌝ }
-    ensures { λ t. ⌜ outcome t (now (q .exit)) (now (r .exit)) (now (work .exit))
-        ≡ divided p (now (f .entry)) (now (g .entry)) (now (q .entry)) (now (r .entry)) (now (work .entry)) ⌝ }
-{
-    clear(q, 0);
-    let plan = prepare(p, f, g, false, q.len() / 2, r.len() / 2);
-    let s = run(p, f, g, q, r, work, plan);
-    clear(work, 0);
-    leave(q, s.reply, s.quotient);
-    leave(r, s.reply, s.remainder);
-    report_of(s.reply, s.quotient, s.remainder)
 }

@@ -2,11 +2,11 @@
 ghost use mathlib.Core.Path.{_≡_};
 ghost use Rattle.refusals.specs.Rules.{lent};
 ghost use Rattle.dues.specs.Dues.{noDue, withRoom, withInput, firstDue};
+use faults::find_faults;
 use refusals::report::Report;
 use refusals::report::done;
 use refusals::report::or_else;
 use refusals::rules::at_term;
-use faults::find_faults;
 use refusals::rules::long_rule;
 use refusals::rules::modulus_rule;
 use refusals::rules::odd_rule;

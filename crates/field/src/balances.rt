@@ -2,8 +2,8 @@ ghost use mathlib.Core.Path.{_≡_};
 ghost use Rattle.field.specs.Answers.{balancedOf, residueOf};
 use crate::Balance;
 use crate::Value;
-use moduli::modulus;
 use crate::refused;
+use moduli::modulus;
 use moduli::neg_mod;
 
 // The balanced value of a residue.

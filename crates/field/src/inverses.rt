@@ -2,9 +2,9 @@ ghost use mathlib.Core.Path.{_≡_};
 ghost use Rattle.algebra.specs.Residues.{inverse};
 ghost use Rattle.field.specs.Answers.{inverseOf};
 use crate::Value;
-use moduli::modulus;
-use moduli::inverse_mod;
 use crate::refused;
+use moduli::inverse_mod;
+use moduli::modulus;
 
 // The inverse of a residue other than 0.
 pub fn inverse(p: u64, a: u64) -> Value

@@ -10,7 +10,6 @@ mod inverses;
 pub use balances::balanced;
 pub use balances::residue;
 pub use inverses::inverse;
-
 use moduli::add_mod;
 use moduli::modulus;
 use moduli::mul_mod;

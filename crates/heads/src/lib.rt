@@ -9,10 +9,10 @@ ghost use Rattle.poly.specs.Keys.{keyAt};
 ghost use Rattle.heads.specs.Remaining.{Headed};
 use moduli::add_mod;
 use moduli::neg_mod;
+use numbers::greater;
 use poly::keys::Head;
 use poly::keys::head_at;
 use poly::keys::key_at;
-use numbers::greater;
 use tree::rows::take;
 
 // Takes the greatest monomial, whose key is given, out of what remains.

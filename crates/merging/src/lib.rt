@@ -1,17 +1,16 @@
 // Merging: two falling lists of terms, one monomial a turn.
 ghost use mathlib.Core.Path.{_≡_};
-ghost use Prim.Native.Nat.{_+_, _*_, _<_, _≤_};
+ghost use Prim.Native.Nat.{_+_, _*_, _<_, _≤_, _^_};
 ghost use lib.ListN.{length};
 ghost use Rattle.algebra.specs.Polynomials.{signedCoef};
 ghost use Rattle.moduli.specs.Moduli.{limit};
-ghost use Rattle.poly.specs.Words.{records};
+ghost use Rattle.poly.specs.Words.{records, wordAt};
 ghost use Rattle.poly.specs.Valid.{Valid};
 ghost use Rattle.calls.specs.Endings.{Filled};
-ghost use Rattle.merging.specs.Merging.{unmerged, Greatest};
+ghost use Rattle.merging.specs.Merging.{unmerged, frontAt, Greatest};
 use moduli::add_mod;
 use moduli::neg_mod;
-use poly::keys::head_at;
-use poly::keys::key_at;
+use numbers::choose;
 use numbers::greater;
 use poly::room::put_term;
 
@@ -21,6 +20,12 @@ pub struct Lead {
     pub coef: u64,
     pub first: usize,
     pub second: usize,
+}
+
+// The record in front: its key and its coefficient, both 0 behind the last.
+pub struct Front {
+    pub key: u64,
+    pub coef: u64,
 }
 
 // Merges two inputs that were found good into the room, and answers the number of terms: one more than the room holds where there
@@ -56,15 +61,39 @@ fn greatest_left(p: u64, a: &[u64], b: &[u64], minus: bool, i: usize, j: usize) 
     requires { ⌜ (Valid p (now a)) × (Valid p (now b)) ⌝ }
     ensures { λ r. ⌜ Greatest p minus (now (a .entry)) (now (b .entry)) i j r ⌝ }
 {
-    let k = greater(key_at(a, i), key_at(b, j));
-    let x = head_at(a, i, k);
-    let y = head_at(b, j, k);
-    let coef = add_mod(p, x.coef, signed_coef(p, minus, y.coef));
+    let x = front_at(a, i);
+    let y = front_at(b, j);
+    let d = signed_coef(p, minus, y.coef);
+    if x.key == y.key {
+        return Lead {
+            word: x.key - 1,
+            coef: add_mod(p, x.coef, d),
+            first: i + 1,
+            second: j + 1,
+        };
+    }
+    // Which of two is greater cannot be foretold, so that it is chosen without a branch.
+    let ahead = y.key < x.key;
     Lead {
-        word: k - 1,
-        coef,
-        first: x.next,
-        second: y.next,
+        word: greater(x.key, y.key) - 1,
+        coef: choose(ahead, x.coef, d),
+        first: i + choose(ahead, 1, 0) as usize,
+        second: j + choose(ahead, 0, 1) as usize,
+    }
+}
+
+// The record in front of a slice that was read up to it.
+fn front_at(s: &[u64], i: usize) -> Front
+    requires { ⌜ (i < records (now s) → wordAt (now s) i < 2 ^ 63) ⌝ }
+    ensures { λ r. ⌜ r ≡ frontAt (now (s .entry)) i ⌝ }
+{
+    if i < s.len() / 2 {
+        Front {
+            key: s[2 * i] + 1,
+            coef: s[2 * i + 1],
+        }
+    } else {
+        Front { key: 0, coef: 0 }
     }
 }
 

@@ -4,8 +4,8 @@ ghost use mathlib.Core.Bool.{true};
 ghost use Rattle.monomial.specs.Layout.{base, fits, wordOf};
 ghost use Rattle.poly.specs.Words.{polyOf};
 ghost use Rattle.poly.specs.Profiles.{measureOf, maxima};
-use numbers::greater;
 use monomial::pack;
+use numbers::greater;
 
 // The term count, the largest exponents of x, y, z and t, and the largest total degree.
 #[repr(C)]

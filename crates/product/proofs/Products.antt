@@ -1,12 +1,10 @@
 -- The product, one law for each way out.
 --
 --   product-coded            the words of the product's normal form, where no letter bursts
---   taken-step               a monomial that is taken out of the tree is a step of filling
---   nothing-filled           a factor without terms gives a product without terms
 --   ends-burst, ends-filled  a product that bursts; one whose terms were counted into the room
 --   factors-exchanged        which factor is the first makes no difference
 --   product-refused, product-goes-on, work-suffices      the call with a refusal due, and with none
-use Prim.Native.Nat.{ℕ, suc, _-_, _*_, _<_, _≤_, min}
+use Prim.Native.Nat.{ℕ, _*_, _<_, _≤_, min}
 use mathlib.Core.Path.{_≡_, refl, sym, _∙_, ap}
 use mathlib.Core.Bool.{Bool}
 use mathlib.Core.List.{List, [], _∷_}
@@ -21,7 +19,7 @@ use Rattle.algebra.specs.Polynomials.{Poly, mul, norm}
 use Rattle.algebra.proofs.NormalForm.{norm-unique}
 use Rattle.algebra.proofs.Ring.{mul-comm}
 use Rattle.monomial.specs.Layout.{base}
-use Rattle.poly.specs.Words.{records, wordAt, span, polyOf, cleared}
+use Rattle.poly.specs.Words.{records, span, polyOf, cleared}
 use Rattle.poly.specs.Valid.{Valid}
 use Rattle.poly.proofs.Readings.{codedPoly, valid-coded}
 use Rattle.poly.proofs.Transport.{coded-mul, coded-norm}
@@ -34,34 +32,10 @@ use Rattle.calls.specs.Inputs.{twoInputs}
 use Rattle.calls.specs.Outcomes.{Outcome, outcome, told, ended, roomReply}
 use Rattle.calls.specs.Endings.{kept, Filled}
 use Rattle.calls.proofs.Refusals.{refused-tells, passed-goes-on}
-use Rattle.calls.proofs.Filling.{Step}
 use Rattle.calls.proofs.Rooms.{Written, written-count, kept-holds, holding-none, ended-by, filled-reply, filled-written}
-use Rattle.tree.specs.Tree.{awaited, Taken}
-use Rattle.tree.proofs.Planting.{awaited-below}
-use Rattle.product.specs.Products.{burstAt, productRules, multiplied, productOf}
-use Rattle.product.proofs.Bursts.{burst-comm, products-fit}
-
--- all that waits in a tree
-abbrev pub waiting : List ℕ → List ℕ → List ℕ → Poly Numbers
-waiting rows cols w = awaited rows cols w 0 (records rows)
-
-pub taken-step : (p : ℕ) (rows cols : List ℕ) → ((i : ℕ) → suc i < records cols → wordAt cols (suc i) < wordAt cols i) → (w w′ : List ℕ) (c : ℕ) →
-    Taken p rows cols (wordAt w 1) w w′ c → Step p (waiting rows cols w) (wordAt w 1 - 1) c (waiting rows cols w′)
-taken-step p rows cols falls w w′ c t =
-    let low : wordAt w′ 1 < wordAt w 1 = t .lower falls (omega arith) in
-    record {
-      small = t .small;
-      sums = t .sums;
-      lower = awaited-below rows cols w′ (t .live) falls (wordAt w 1 - 1) (omega arith);
-    }
-
-pub nothing-filled : (p : ℕ) (rows cols room : List ℕ) → records rows ≡ 0 →
-    Filled p (mul (span rows 0 (records rows)) (span cols 0 (records cols))) room room 0
-nothing-filled p rows cols room z =
-    record {
-      fits = λ k. sym (ap (λ n. norm Rising p (mul (span rows 0 n) (span cols 0 (records cols)))) z);
-      full = λ k. absurd (omega arith);
-    }
+use Rattle.expansion.specs.Bursts.{burstAt}
+use Rattle.product.specs.Products.{productRules, multiplied, productOf}
+use Rattle.expansion.proofs.Bursts.{burst-comm, products-fit}
 
 module _ (p : ℕ) (rows cols room work : List ℕ) where
   abbrev first : Poly (Letters 4)

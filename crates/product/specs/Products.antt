@@ -1,33 +1,24 @@
 -- What the product does.
 --
---   burstAt f g                  the first letter v with M(f, v) + M(g, v) over the largest exponent; the number of letters if none
---   Bursts a b                   some letter v has M(a, v) + M(b, v) over the largest exponent
 --   productReply f g h room      9 where a letter bursts, else 10 where the product h has more terms than the room, else 0
 --   productRules                 the refusals 1 to 8 of a product
 --   multiplied                   what a product leaves where none of them is due
 --   productOf p a b room work    the product of two polynomials, in its normal form
-use Prim.Native.Nat.{ℕ, _+_, _*_, _<_, min}
+use Prim.Native.Nat.{ℕ, _*_, min}
 use mathlib.Core.List.{List, [], _∷_, _++_}
 use lib.Dec.{ltb}
 use lib.ListN.{length}
-use Rattle.algebra.specs.Residues.{pick, first}
-use Rattle.algebra.specs.Monomials.{Letters, exponent}
+use Rattle.algebra.specs.Residues.{pick}
+use Rattle.algebra.specs.Monomials.{Letters}
 use Rattle.algebra.specs.Orders.{Lex}
-use Rattle.algebra.specs.Polynomials.{Poly, mul, largest, norm}
-use Rattle.monomial.specs.Layout.{base, largestExponent}
+use Rattle.algebra.specs.Polynomials.{Poly, mul, norm}
+use Rattle.monomial.specs.Layout.{base}
 use Rattle.poly.specs.Words.{records, polyOf}
 use Rattle.refusals.specs.Rules.{workRule}
 use Rattle.refusals.specs.declared.report.Report.{Report}
 use Rattle.calls.specs.Inputs.{twoInputs}
 use Rattle.calls.specs.Outcomes.{Outcome, unlessRefused, ended, roomReply}
-
-abbrev pub burstAt : Poly (Letters 4) → Poly (Letters 4) → ℕ
-burstAt f g = first (λ v. ltb (largestExponent 16) (largest (exponent 4 v) f + largest (exponent 4 v) g)) 0 4
-
-pub record Bursts (a b : List ℕ) : Type 0 where
-  pub letter : ℕ
-  pub one-of-four : letter < 4
-  pub over : largestExponent 16 < largest (exponent 4 letter) (polyOf base a) + largest (exponent 4 letter) (polyOf base b)
+use Rattle.expansion.specs.Bursts.{burstAt}
 
 abbrev pub productReply : Poly (Letters 4) → Poly (Letters 4) → Poly (Letters 4) → List ℕ → ℕ
 productReply f g h room = pick (ltb (burstAt f g) 4) 9 (roomReply (length h) room)

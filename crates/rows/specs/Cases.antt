@@ -13,7 +13,7 @@ use Rattle.services.specs.Services.{checkOf}
 use Rattle.product.specs.Products.{productOf}
 use Rattle.division.specs.Division.{divideOf, testOf}
 use Rattle.claims.specs.Sheet.{Row, product, division, divideTest, balanced, right}
-use Rattle.compared.specs.Compared.{sameReport}
+use Rattle.compared.specs.Compared.{sameReport, allDirt, said}
 use Rattle.rows.specs.declared.Tried.{Tried}
 
 -- Rows

@@ -9,9 +9,9 @@ use crate::text::print_reply;
 use crate::text::print_verdict;
 use crate::text::write;
 use refusals::report::Report;
+use rows::Tried;
 use rows::fields::balanced_tried;
 use rows::fields::modulus_tried;
-use rows::Tried;
 
 // A modulus, tried by the check of a polynomial.
 pub fn modulus_case(p: u64, a: &[u64], says: Report) -> bool

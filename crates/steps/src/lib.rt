@@ -7,10 +7,10 @@ ghost use Rattle.poly.specs.Keys.{keyAt};
 ghost use Rattle.judges.specs.Plans.{Ready};
 ghost use Rattle.steps.specs.Walking.{Walking, RowPut, Stepped};
 use heads::take_head;
-use moduli::mul_mod;
 use judges::Plan;
 use judges::judge_quotient;
 use judges::judge_remainder;
+use moduli::mul_mod;
 use poly::room::put_term;
 use tree::rows::add;
 

@@ -4,14 +4,13 @@ ghost use Prim.Native.Nat.{ℕ, _*_, _<_, _≤_};
 ghost use lib.ListN.{length, getD};
 ghost use Rattle.judges.specs.Plans.{Ready};
 ghost use Rattle.walk.specs.Running.{Fresh, Enough, Ran};
-
+use growth::grow;
 use heads::greatest_key;
-use steps::State;
-use steps::step;
 use judges::Plan;
 use numbers::smaller;
 use poly::room::clear;
-use growth::grow;
+use steps::State;
+use steps::step;
 
 // The rows of a new tree. It grows with the quotient, so that a room much longer than the quotient costs nothing.
 const FIRST_ROWS: usize = 16;

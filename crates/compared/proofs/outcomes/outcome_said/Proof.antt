@@ -1,4 +1,4 @@
--- `rows::outcomes::outcome_said` meets its contract.
+-- `compared::outcomes::outcome_said` meets its contract.
 use borrow.Author.Needs.{needs}
 use Rattle.compared.proofs.outcomes.outcome_said.Statement.{statement}
 use Rattle.compared.proofs.outcomes.outcome_said.Tie as tie

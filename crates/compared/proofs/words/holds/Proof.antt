@@ -1,4 +1,4 @@
--- `rows::words::holds` meets its contract. The loop's invariant: the array agrees with what it has to hold, up to i.
+-- `compared::words::holds` meets its contract. The loop's invariant: the array agrees with what it has to hold, up to i.
 use Prim.Native.Nat.{ℕ, _-_, _<_, _≤_}
 use mathlib.Core.Path.{_≡_, sym, _∙_}
 use mathlib.Core.List.{List}

@@ -1,4 +1,4 @@
--- `rows::words::lent_words` meets its contract.
+-- `compared::words::lent_words` meets its contract.
 use mathlib.Core.Path.{refl}
 use Rattle.compared.specs.Compared.{allDirt}
 use Rattle.compared.proofs.words.lent_words.Statement.{statement}

@@ -1,4 +1,4 @@
--- `rows::words::rest_of` meets its contract.
+-- `compared::words::rest_of` meets its contract.
 use Prim.Native.Nat.{ℕ, _<_, _≤_}
 use mathlib.Core.Path.{_≡_, sym, ap}
 use native.Mathlib.Omega.{arith}

@@ -1,4 +1,4 @@
--- `rows::words::same_report` meets its contract.
+-- `compared::words::same_report` meets its contract.
 use borrow.Author.Needs.{needs}
 use Rattle.compared.proofs.words.same_report.Statement.{statement}
 use Rattle.compared.proofs.words.same_report.Tie as tie

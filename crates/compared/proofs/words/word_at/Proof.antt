@@ -1,4 +1,4 @@
--- `rows::words::word_at` meets its contract.
+-- `compared::words::word_at` meets its contract.
 use mathlib.Core.Path.{sym}
 use borrow.Author.Needs.{needs}
 use denote.Ref.{now}

@@ -7,7 +7,8 @@ use Rattle.refusals.specs.Rules.{lent, inputTerms, roomTerms}
 use Rattle.dues.specs.Dues.{withRoom}
 use Rattle.dues.specs.declared.Due.{Due}
 use Rattle.calls.proofs.Refusals.{refused-tells, passed-goes-on}
-use Rattle.division.specs.Division.{divideRules, divided, divideOf}
+use Rattle.division.specs.Division.{divideRules, divideOf}
+use Rattle.quotients.specs.Quotients.{divided}
 use Rattle.division.proofs.Walkable.{rules-walkable, all-asked}
 use Rattle.division.proofs.division.divide.Statement.{statement}
 use Rattle.division.proofs.division.divide.Tie as tie

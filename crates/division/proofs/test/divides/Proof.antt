@@ -7,7 +7,8 @@ use Rattle.refusals.specs.Rules.{lent, inputTerms}
 use Rattle.dues.specs.Dues.{withRoom}
 use Rattle.dues.specs.declared.Due.{Due}
 use Rattle.calls.proofs.Refusals.{refused-tells, passed-goes-on}
-use Rattle.division.specs.Division.{testRules, tested, testOf}
+use Rattle.division.specs.Division.{testRules, testOf}
+use Rattle.quotients.specs.Quotients.{tested}
 use Rattle.division.proofs.Walkable.{rules-walkable, all-asked}
 use Rattle.division.proofs.test.divides.Statement.{statement}
 use Rattle.division.proofs.test.divides.Tie as tie

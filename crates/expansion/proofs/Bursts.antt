@@ -30,7 +30,7 @@ use Rattle.poly.specs.Profiles.{measureOf}
 use Rattle.poly.specs.declared.profile.Profile.{Profile}
 use Rattle.poly.proofs.Maxima.{exponents-of, letters-fit, words-small}
 use Rattle.tree.specs.Tree.{Sides}
-use Rattle.product.specs.Products.{burstAt}
+use Rattle.expansion.specs.Bursts.{burstAt}
 
 abbrev pub bursts : Poly (Letters 4) → Poly (Letters 4) → ℕ → Bool
 bursts f g v = ltb (largestExponent 16) (largest (exponent 4 v) f + largest (exponent 4 v) g)

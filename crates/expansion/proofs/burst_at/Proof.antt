@@ -1,4 +1,4 @@
--- `product::burst_at` meets its contract: the letters that were tried do not burst.
+-- `expansion::burst_at` meets its contract: the letters that were tried do not burst.
 use Prim.Native.Nat.{ℕ, _+_, _-_, _≤_}
 use mathlib.Core.Path.{_≡_, refl, sym, _∙_, ap}
 use mathlib.Core.Bool.{Bool}
@@ -12,10 +12,10 @@ use Rattle.algebra.proofs.Scan.{first-stop, first-up}
 use Rattle.monomial.specs.Layout.{base}
 use Rattle.poly.specs.Words.{polyOf}
 use Rattle.poly.proofs.Maxima.{exponents-of}
-use Rattle.product.specs.Products.{burstAt}
-use Rattle.product.proofs.Bursts.{bursts, bursts-test}
-use Rattle.product.proofs.burst_at.Statement.{statement}
-use Rattle.product.proofs.burst_at.Tie as tie
+use Rattle.expansion.specs.Bursts.{burstAt}
+use Rattle.expansion.proofs.Bursts.{bursts, bursts-test}
+use Rattle.expansion.proofs.burst_at.Statement.{statement}
+use Rattle.expansion.proofs.burst_at.Tie as tie
 
 abbrev Inv-loop : tie.InvT-loop
 Inv-loop f g a b v₀ v =

@@ -1,10 +1,10 @@
--- `division::test::test_good` meets its contract.
+-- `quotients::test::test_good` meets its contract.
 use mathlib.Core.Bool.{true}
 use native.Mathlib.Omega.{arith}
 use borrow.Author.Needs.{needs}
-use Rattle.division.proofs.WalkedRooms.{call-starts, walked-within, test-ends}
-use Rattle.division.proofs.test.test_good.Statement.{statement}
-use Rattle.division.proofs.test.test_good.Tie as tie
+use Rattle.quotients.proofs.WalkedRooms.{call-starts, walked-within, test-ends}
+use Rattle.quotients.proofs.test.test_good.Statement.{statement}
+use Rattle.quotients.proofs.test.test_good.Tie as tie
 
 -- Places, each by a later one: the start, the cleared quotient room, the plan, the walk, the cleared work
 

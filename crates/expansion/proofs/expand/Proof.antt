@@ -1,4 +1,4 @@
--- `product::expand` meets its contract: without rows there is nothing, else the tree is started and emptied into the room.
+-- `expansion::expand` meets its contract: without rows there is nothing, else the tree is started and emptied into the room.
 use Prim.Native.Nat.{_<_, _^_}
 use mathlib.Core.Path.{subst}
 use native.Mathlib.Nat.{pos-of-ne-zero}
@@ -7,10 +7,10 @@ use borrow.Author.Needs.{needs}
 use Rattle.poly.specs.Words.{records}
 use Rattle.poly.proofs.Maxima.{words-small}
 use Rattle.calls.specs.Endings.{Filled}
-use Rattle.product.proofs.Bursts.{sides}
-use Rattle.product.proofs.Products.{nothing-filled}
-use Rattle.product.proofs.expand.Statement.{statement}
-use Rattle.product.proofs.expand.Tie as tie
+use Rattle.expansion.proofs.Bursts.{sides}
+use Rattle.expansion.proofs.Expanding.{nothing-filled}
+use Rattle.expansion.proofs.expand.Statement.{statement}
+use Rattle.expansion.proofs.expand.Tie as tie
 
 abbrev start : tie.Else1 → tie.Start
 start c = c .before .before .before .before .before

@@ -1,11 +1,11 @@
--- `division::division::divide_good` meets its contract.
+-- `quotients::division::divide_good` meets its contract.
 use mathlib.Core.Path.{_∙_}
 use mathlib.Core.Bool.{false}
 use native.Mathlib.Omega.{arith}
 use borrow.Author.Needs.{needs}
-use Rattle.division.proofs.WalkedRooms.{call-starts, kept-long, walked-within, quotient-long, division-ends}
-use Rattle.division.proofs.division.divide_good.Statement.{statement}
-use Rattle.division.proofs.division.divide_good.Tie as tie
+use Rattle.quotients.proofs.WalkedRooms.{call-starts, kept-long, walked-within, quotient-long, division-ends}
+use Rattle.quotients.proofs.division.divide_good.Statement.{statement}
+use Rattle.quotients.proofs.division.divide_good.Tie as tie
 
 -- Places, each by a later one: the start, the cleared quotient room, the plan, the walk, the cleared work
 

@@ -1,4 +1,4 @@
--- `product::fill` meets its contract. The loop's invariant: n records are written, and the rest waits in the tree.
+-- `expansion::fill` meets its contract. The loop's invariant: n records are written, and the rest waits in the tree.
 use Prim.Native.Nat.{_-_}
 use mathlib.Core.Path.{_≡_, refl, _∙_}
 use native.Mathlib.Nat.{pos-of-ne-zero}
@@ -8,9 +8,9 @@ use Rattle.poly.specs.Words.{wordAt}
 use Rattle.tree.specs.Tree.{Live}
 use Rattle.tree.proofs.Planting.{awaited-none}
 use Rattle.calls.proofs.Filling.{Step, Filling, fill-starts, fill-skips, fill-writes, fill-full, fill-ends}
-use Rattle.product.proofs.Products.{waiting, taken-step}
-use Rattle.product.proofs.fill.Statement.{statement}
-use Rattle.product.proofs.fill.Tie as tie
+use Rattle.expansion.proofs.Expanding.{waiting, taken-step}
+use Rattle.expansion.proofs.fill.Statement.{statement}
+use Rattle.expansion.proofs.fill.Tie as tie
 
 abbrev Inv-loop : tie.InvT-loop
 Inv-loop p rows cols room₀ work₀ n₀ room work n =

@@ -1,0 +1,3 @@
+-- Laws of the terms of a product.
+pub mod Bursts
+pub mod Expanding

@@ -1,0 +1,2 @@
+-- Products that burst.
+pub mod Bursts

@@ -1,0 +1,2 @@
+-- Laws of a walk in the rooms of a call.
+pub mod WalkedRooms

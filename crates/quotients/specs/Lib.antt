@@ -1,0 +1,2 @@
+-- Quotients and remainders.
+pub mod Quotients
