@@ -1,4 +1,4 @@
-/* FLINT's product, division and divide test by name, on the engine's records. */
+/* FLINT's sum, difference, product, division and divide test by name, on the engine's records. */
 #include <stddef.h>
 #include <stdint.h>
 #include <stdlib.h>
@@ -36,6 +36,16 @@ contest *shim_contest(uint64_t p, const uint64_t *a, size_t a_len, const uint64_
     read_words(c, 0, a, a_len);
     read_words(c, 1, b, b_len);
     return c;
+}
+
+void shim_sum(contest *c)
+{
+    nmod_mpoly_add(c->output[0], c->input[0], c->input[1], c->ctx);
+}
+
+void shim_difference(contest *c)
+{
+    nmod_mpoly_sub(c->output[0], c->input[0], c->input[1], c->ctx);
 }
 
 void shim_product(contest *c)

@@ -18,6 +18,7 @@ const FULL: usize = limit::INPUT_TERMS;
 /// The inputs of RULES Speed first, then those of other shapes.
 pub fn tasks() -> Vec<Case> {
     let mut cases = of_the_rule();
+    cases.extend(sums());
     cases.extend(long_by_short());
     cases.extend(with_remainder());
     cases.extend(dense());
@@ -46,6 +47,27 @@ fn of_the_rule() -> Vec<Case> {
         }
     }
     cases
+}
+
+fn sums() -> [Case; 4] {
+    let rng = &mut Rng::new(4);
+    let [a, b] = [(); 2].map(|_| sparse(rng, FULL));
+    let [c, d] = [(); 2].map(|_| sparse(rng, 64));
+    [
+        case("sum, 64 and 64 terms", combine(Operation::Sum, &c, &d)),
+        case(
+            "sum, 4,096 and 4,096 terms",
+            combine(Operation::Sum, &a, &b),
+        ),
+        case(
+            "difference, 4,096 and 4,096 terms",
+            combine(Operation::Difference, &a, &b),
+        ),
+        case(
+            "sum, 4,096 terms and the same",
+            combine(Operation::Sum, &a, &a),
+        ),
+    ]
 }
 
 fn long_by_short() -> [Case; 2] {
@@ -141,6 +163,16 @@ fn case(title: &str, task: Task) -> Case {
         title: title.to_string(),
         asked: false,
         task,
+    }
+}
+
+fn combine(operation: Operation, a: &[u64], b: &[u64]) -> Task {
+    Task {
+        operation,
+        p: P,
+        first: a.to_vec(),
+        second: b.to_vec(),
+        rooms: [(a.len() + b.len()) / 2, 0],
     }
 }
 

@@ -4,6 +4,8 @@ use crate::clock::processor_time;
 
 #[derive(Clone, Copy, PartialEq, Eq)]
 pub enum Operation {
+    Sum,
+    Difference,
     Product,
     Division,
     Test,

@@ -13,8 +13,9 @@ pub struct Engine<'a> {
 impl<'a> Engine<'a> {
     pub fn new(task: &'a Task) -> Self {
         let terms = match task.operation {
+            Operation::Sum | Operation::Difference => 0,
             Operation::Product => task.first.len().min(task.second.len()) / 2,
-            _ => task.rooms[0],
+            Operation::Division | Operation::Test => task.rooms[0],
         };
         Engine {
             task,
@@ -38,6 +39,8 @@ impl Contender for Engine<'_> {
         let [q, r] = &mut self.outputs;
         let work = &mut self.work;
         self.report = match self.task.operation {
+            Operation::Sum => garantepo::sum(*p, first, second, q),
+            Operation::Difference => garantepo::difference(*p, first, second, q),
             Operation::Product => garantepo::product(*p, first, second, q, work),
             Operation::Division => garantepo::divide(*p, first, second, q, r, work),
             Operation::Test => garantepo::divides(*p, first, second, q, work),

@@ -17,6 +17,8 @@ extern "C" {
         b: *const u64,
         b_len: usize,
     ) -> *mut Contest;
+    fn shim_sum(contest: *mut Contest);
+    fn shim_difference(contest: *mut Contest);
     fn shim_product(contest: *mut Contest);
     fn shim_division(contest: *mut Contest);
     fn shim_test(contest: *mut Contest) -> c_int;
@@ -66,6 +68,8 @@ impl Contender for Flint {
         // SAFETY: the contest is live until it is dropped.
         unsafe {
             match self.operation {
+                Operation::Sum => shim_sum(self.contest),
+                Operation::Difference => shim_difference(self.contest),
                 Operation::Product => shim_product(self.contest),
                 Operation::Division => shim_division(self.contest),
                 Operation::Test => assert_eq!(shim_test(self.contest), 1),

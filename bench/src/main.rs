@@ -1,4 +1,4 @@
-//! The benchmark: the engine against a merging division and against FLINT, in one process.
+//! The benchmark: the engine against plain merging and against FLINT, in one process.
 //!
 //! `bench DATE` writes docs/BENCHMARK.md, docs/growth.svg and the table of README.md under the current
 //! folder.

@@ -1,6 +1,7 @@
-//! The straightforward division: what remains is one sorted list, and each quotient term times the
-//! divisor is merged into it. It has the engine's records, refusals and stops, so that both do the
-//! same for the same arrays; its two lists are its own.
+//! The straightforward sum and division. A sum merges both inputs by comparing their terms in front.
+//! In a division what remains is one sorted list, and each quotient term times the divisor is merged
+//! into it. Both have the engine's records, refusals and stops, so that all do the same for the same
+//! arrays; the two lists of a division are its own.
 
 use crate::contest::{Contender, Operation, Task};
 use garantepo::limit;
@@ -39,8 +40,13 @@ impl Contender for Merging<'_> {
             p, first, second, ..
         } = self.task;
         let [q, r] = &mut self.outputs;
-        let test = self.task.operation == Operation::Test;
-        self.reply = divide(*p, first, second, q, r, test);
+        self.reply = match self.task.operation {
+            Operation::Sum => combine(*p, first, second, q, false),
+            Operation::Difference => combine(*p, first, second, q, true),
+            Operation::Product => unreachable!("merging has no product"),
+            Operation::Division => divide(*p, first, second, q, r, false),
+            Operation::Test => divide(*p, first, second, q, r, true),
+        };
     }
 
     fn answer(&self) -> [Vec<u64>; 2] {
@@ -50,9 +56,43 @@ impl Contender for Merging<'_> {
     }
 }
 
+/// The sum, or the difference.
+fn combine(p: u64, a: &[u64], b: &[u64], room: &mut [u64], minus: bool) -> Reply {
+    check_inputs(p, [a, b], &[], &[room])?;
+    let reply = merge(p, a, b, room, minus);
+    room[2 * reply.unwrap_or(0)..].fill(0);
+    reply.map(|held| [held, 0])
+}
+
+fn merge(p: u64, a: &[u64], b: &[u64], room: &mut [u64], minus: bool) -> Result<usize, u64> {
+    let signed = |c| if minus { p - c } else { c };
+    let (mut i, mut j, mut held) = (0, 0, 0);
+    while i < a.len() || j < b.len() {
+        let term = if j == b.len() || i < a.len() && b[j] < a[i] {
+            i += 2;
+            (a[i - 2], a[i - 1])
+        } else if i == a.len() || a[i] < b[j] {
+            j += 2;
+            (b[j - 2], signed(b[j - 1]))
+        } else {
+            i += 2;
+            j += 2;
+            let sum = a[i - 1] + signed(b[j - 1]);
+            (a[i - 2], if sum < p { sum } else { sum - p })
+        };
+        if term.1 != 0 {
+            held = put(room, held, term).ok_or(10u64)?;
+        }
+    }
+    Ok(held)
+}
+
 /// Division with remainder, or the divide test.
 fn divide(p: u64, f: &[u64], g: &[u64], q: &mut [u64], r: &mut [u64], test: bool) -> Reply {
-    check_all(p, f, g, q, r)?;
+    check_inputs(p, [f, g], &[q], &[r])?;
+    if g.is_empty() {
+        return Err(7);
+    }
     let reply = walk(p, f, g, q, r, test);
     let [first, second] = reply.unwrap_or([0, 0]);
     q[2 * first..].fill(0);
@@ -156,26 +196,29 @@ fn inverse(p: u64, a: u64) -> u64 {
     s.rem_euclid(p as i64) as u64
 }
 
-/// The refusals 1 to 7; there is no work array to be too short.
-fn check_all(p: u64, f: &[u64], g: &[u64], q: &[u64], r: &[u64]) -> Result<(), u64> {
-    let all = [f, g, q, r];
+/// The refusals 1 to 6 of two inputs, of rooms for a quotient, and of other rooms.
+fn check_inputs(
+    p: u64,
+    inputs: [&[u64]; 2],
+    quotients: &[&mut [u64]],
+    rooms: &[&mut [u64]],
+) -> Result<(), u64> {
     if !is_modulus(p) {
         return Err(1);
     }
-    if all.iter().any(|words| words.len() % 2 == 1) {
+    let short = inputs.iter().map(|words| words.len());
+    let short = short.chain(quotients.iter().map(|words| words.len()));
+    let long = rooms.iter().map(|words| words.len());
+    if short.clone().chain(long.clone()).any(|len| len % 2 == 1) {
         return Err(2);
     }
-    let too_long = |words: &&[u64]| words.len() > 2 * limit::INPUT_TERMS;
-    if [f, g, q].iter().any(too_long) || r.len() > 2 * limit::ROOM_TERMS {
+    if short.max() > Some(2 * limit::INPUT_TERMS) || long.max() > Some(2 * limit::ROOM_TERMS) {
         return Err(3);
     }
-    if let Some(number) = [f, g].iter().filter_map(|a| term_fault(p, a)).min() {
-        return Err(number);
+    match inputs.iter().filter_map(|a| term_fault(p, a)).min() {
+        Some(number) => Err(number),
+        None => Ok(()),
     }
-    if g.is_empty() {
-        return Err(7);
-    }
-    Ok(())
 }
 
 /// The least of the refusals 4 to 6 that is due of one input.

@@ -14,8 +14,8 @@ ghost use Rattle.tree.specs.Tree.{awaited, Live, Sides};
 ghost use Rattle.expansion.specs.Bursts.{burstAt};
 use poly::profile::measure;
 use poly::room::put_term;
-use tree::rows::start;
-use tree::rows::take;
+use tree::start;
+use tree::take;
 
 // The largest exponent, and the number of letters.
 const LARGEST: u64 = 32767;

@@ -17,7 +17,7 @@ use Rattle.algebra.specs.Polynomials.{term, times}
 use Rattle.poly.specs.Words.{records, wordAt, coefAt, span}
 use Rattle.tree.specs.Tree.{tagAt, rowOf, columnOf, unlessEmpty, Tree, Settled, Product, Waits, pending, awaited, Live, Built}
 use Rattle.growth.specs.Growth.{LeafOf, Moved, Grown}
-use Rattle.tree.specs.declared.rows.Node.{Node}
+use Rattle.tree.specs.declared.Node.{Node}
 use Rattle.poly.proofs.Records.{put, put-length, put-word, put-coef, put-other}
 use Rattle.tree.proofs.Ways.{Leaf, tree-leaf, tree-greatest}
 use Rattle.tree.proofs.Taking.{pending-empty}

@@ -7,7 +7,7 @@ use mathlib.Core.Path.{_≡_}
 use mathlib.Core.List.{List}
 use lib.ListN.{length}
 use Rattle.poly.specs.Words.{wordAt}
-use Rattle.tree.specs.declared.rows.Node.{Node}
+use Rattle.tree.specs.declared.Node.{Node}
 use Rattle.tree.specs.Tree.{tagAt, Tree}
 
 -- the leaf of a row in a tree of n rows; an empty record where there is no such row

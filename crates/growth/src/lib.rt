@@ -2,8 +2,8 @@
 ghost use Prim.Native.Nat.{_*_, _≤_};
 ghost use lib.ListN.{length};
 ghost use Rattle.growth.specs.Growth.{LeafOf, Moved, Grown};
-use tree::rows::Node;
-use tree::rows::build;
+use tree::Node;
+use tree::build;
 
 // Makes a tree of `count` rows one of `more` rows. Nothing waits in the new ones.
 pub fn grow(work: &mut [u64], count: usize, more: usize)

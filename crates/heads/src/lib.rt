@@ -13,7 +13,7 @@ use numbers::greater;
 use poly::keys::Head;
 use poly::keys::head_at;
 use poly::keys::key_at;
-use tree::rows::take;
+use tree::take;
 
 // Takes the greatest monomial, whose key is given, out of what remains.
 pub fn take_head(

@@ -12,7 +12,7 @@ use judges::judge_quotient;
 use judges::judge_remainder;
 use moduli::mul_mod;
 use poly::room::put_term;
-use tree::rows::add;
+use tree::add;
 
 // The place in the dividend, the quotient and remainder terms written, and the reply that stopped the walk, 0 for none.
 pub struct State {

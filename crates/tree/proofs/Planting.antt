@@ -18,7 +18,7 @@ use Rattle.algebra.specs.Polynomials.{term, times, mul, Below}
 use Rattle.algebra.proofs.All.{all-append}
 use Rattle.poly.specs.Words.{records, wordAt, coefAt, span}
 use Rattle.tree.specs.Tree.{tagAt, Holds, rowOf, columnOf, Product, Waits, pending, awaited, Live, Greater, Planted, Built, Started}
-use Rattle.tree.specs.declared.rows.Node.{Node}
+use Rattle.tree.specs.declared.Node.{Node}
 use Rattle.poly.proofs.Records.{put, put-length, put-word, put-coef, put-other}
 use Rattle.tree.proofs.Ways.{beside, beside-place, Best, best-holds, holds-other, tree-greatest}
 use Rattle.tree.proofs.Taking.{pending-at, pending-empty}

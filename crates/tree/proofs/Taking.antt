@@ -22,7 +22,7 @@ use Rattle.algebra.proofs.Totals.{total, equal-by}
 use Rattle.algebra.proofs.NormalForm.{equal-trans}
 use Rattle.poly.specs.Words.{records, wordAt, coefAt, span}
 use Rattle.tree.specs.Tree.{tagAt, Settled, rowOf, columnOf, Product, Waits, unlessEmpty, pending, awaited, Sides, Live, Next, Climbed, Taken}
-use Rattle.tree.specs.declared.rows.Node.{Node}
+use Rattle.tree.specs.declared.Node.{Node}
 use Rattle.tree.proofs.Ways.{settled-root, root-settled, tree-greatest, Leaf, tree-leaf}
 
 -- Sums over the terms

@@ -22,7 +22,7 @@ use lib.Bits.{bitXor, xor-add-and, and-mask}
 use lib.ListN.{length}
 use Rattle.poly.specs.Words.{wordAt}
 use Rattle.tree.specs.Tree.{tagAt, Copy, Holds, Tree, Above, Settled, Greater, Climbed}
-use Rattle.tree.specs.declared.rows.Node.{Node}
+use Rattle.tree.specs.declared.Node.{Node}
 use Rattle.poly.proofs.Records.{put, put-length, put-word, put-coef, put-other}
 
 pub half-steps : (i m : ℕ) → i / 2 ^ suc m ≡ i / 2 / 2 ^ m

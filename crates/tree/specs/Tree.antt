@@ -22,7 +22,7 @@ use lib.ListN.{length, getD}
 use Rattle.algebra.specs.Monomials.{Numbers}
 use Rattle.algebra.specs.Polynomials.{term, Poly, count, Equal, times, mul}
 use Rattle.poly.specs.Words.{records, wordAt, coefAt, span}
-use Rattle.tree.specs.declared.rows.Node.{Node}
+use Rattle.tree.specs.declared.Node.{Node}
 
 -- the tag of record j, its second word
 abbrev pub tagAt : List ℕ → ℕ → ℕ

@@ -1,4 +1,4 @@
--- `tree::rows::take` meets its contract. The loop's invariant: `sum` is what was taken so far, and the next record to take is at `at`.
+-- `tree::take` meets its contract. The loop's invariant: `sum` is what was taken so far, and the next record to take is at `at`.
 use Prim.Native.Nat.{_*_, _^_, _<_}
 use native.Mathlib.Omega.{arith}
 use lib.ListN.{length}
@@ -6,8 +6,8 @@ use Rattle.moduli.proofs.Bounds.{product-small}
 use Rattle.poly.specs.Words.{records, coefAt}
 use Rattle.tree.specs.Tree.{tagAt, rowOf, columnOf, awaited}
 use Rattle.tree.proofs.Taking.{Taking, Hand, hand, taken, length-weigh, take-starts, take-steps, take-ends}
-use Rattle.tree.proofs.rows.take.Statement.{statement}
-use Rattle.tree.proofs.rows.take.Tie as tie
+use Rattle.tree.proofs.take.Statement.{statement}
+use Rattle.tree.proofs.take.Tie as tie
 
 abbrev Inv-loop : tie.InvT-loop
 Inv-loop p rows cols work₀ k count sum₀ at₀ work sum at = Taking rows cols p k work₀ work sum at

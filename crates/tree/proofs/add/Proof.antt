@@ -1,10 +1,10 @@
--- `tree::rows::add` meets its contract.
+-- `tree::add` meets its contract.
 use native.Mathlib.Omega.{arith}
 use Rattle.tree.proofs.Ways.{root-settled}
 use Rattle.tree.proofs.Adding.{adds}
 use borrow.Author.Needs.{needs}
-use Rattle.tree.proofs.rows.add.Statement.{statement}
-use Rattle.tree.proofs.rows.add.Tie as tie
+use Rattle.tree.proofs.add.Statement.{statement}
+use Rattle.tree.proofs.add.Tie as tie
 
 mul-key : tie.Need-mul-key
 mul-key c = search needs

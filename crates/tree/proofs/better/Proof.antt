@@ -1,9 +1,9 @@
--- `tree::rows::better` meets its contract.
+-- `tree::better` meets its contract.
 use mathlib.Core.Path.{refl}
 use mathlib.Core.Logic.{inl, inr}
 use native.Mathlib.Omega.{arith}
-use Rattle.tree.proofs.rows.better.Statement.{statement}
-use Rattle.tree.proofs.rows.better.Tie as tie
+use Rattle.tree.proofs.better.Statement.{statement}
+use Rattle.tree.proofs.better.Tie as tie
 
 returns : tie.Need-returns
 returns c = record { first = omega arith; second = omega arith; copies = inr refl }

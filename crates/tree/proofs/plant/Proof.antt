@@ -1,4 +1,4 @@
--- `tree::rows::plant` meets its contract. The loop's invariant: the leaves of the rows up to i are planted.
+-- `tree::plant` meets its contract. The loop's invariant: the leaves of the rows up to i are planted.
 use Prim.Native.Nat.{_-_}
 use mathlib.Core.Path.{_≡_, subst}
 use native.Mathlib.Omega.{arith}
@@ -6,8 +6,8 @@ use lib.ListN.{length-set}
 use Rattle.poly.specs.Words.{records}
 use Rattle.tree.specs.Tree.{Planted}
 use Rattle.tree.proofs.Planting.{plant-none, plant-more}
-use Rattle.tree.proofs.rows.plant.Statement.{statement}
-use Rattle.tree.proofs.rows.plant.Tie as tie
+use Rattle.tree.proofs.plant.Statement.{statement}
+use Rattle.tree.proofs.plant.Tie as tie
 
 abbrev Inv-loop : tie.InvT-loop
 Inv-loop rows first work₀ count i₀ work i = Planted rows first work₀ i work

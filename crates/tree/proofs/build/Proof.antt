@@ -1,11 +1,11 @@
--- `tree::rows::build` meets its contract. The loop's invariant: the records from `at` on hold.
+-- `tree::build` meets its contract. The loop's invariant: the records from `at` on hold.
 use Prim.Native.Nat.{_≤_, _-_, _+_}
 use native.Mathlib.Omega.{arith}
 use lib.ListN.{length-set}
 use Rattle.tree.specs.Tree.{Built}
 use Rattle.tree.proofs.Planting.{build-none, build-more, build-less}
-use Rattle.tree.proofs.rows.build.Statement.{statement}
-use Rattle.tree.proofs.rows.build.Tie as tie
+use Rattle.tree.proofs.build.Statement.{statement}
+use Rattle.tree.proofs.build.Tie as tie
 
 abbrev Inv-loop : tie.InvT-loop
 Inv-loop work₀ count at₀ work at = (at ≤ count) × Built count work₀ at work

@@ -1,11 +1,11 @@
--- `tree::rows::climb` meets its contract. The loop's invariant: the climb has come to a record, and every record but those above it holds.
+-- `tree::climb` meets its contract. The loop's invariant: the climb has come to a record, and every record but those above it holds.
 use mathlib.Core.Path.{_∙_}
 use mathlib.Core.Logic.{inl, inr}
 use lib.ListN.{length-set}
 use native.Mathlib.Omega.{arith}
 use Rattle.tree.proofs.Ways.{beside-within, beside-from, settled-beside, Climbing, climb-starts, climb-steps, climb-ends}
-use Rattle.tree.proofs.rows.climb.Statement.{statement}
-use Rattle.tree.proofs.rows.climb.Tie as tie
+use Rattle.tree.proofs.climb.Statement.{statement}
+use Rattle.tree.proofs.climb.Tie as tie
 
 abbrev Inv-loop : tie.InvT-loop
 Inv-loop work₀ count leaf key tag k at₀ best₀ work at best = Climbing count work₀ work at (best .key) (best .tag)

@@ -1,8 +1,8 @@
--- `tree::rows::start` meets its contract.
+-- `tree::start` meets its contract.
 use Rattle.tree.proofs.Planting.{starts}
 use borrow.Author.Needs.{needs}
-use Rattle.tree.proofs.rows.start.Statement.{statement}
-use Rattle.tree.proofs.rows.start.Tie as tie
+use Rattle.tree.proofs.start.Statement.{statement}
+use Rattle.tree.proofs.start.Tie as tie
 
 shared-slice-read-plant : tie.Need-shared-slice-read-plant
 shared-slice-read-plant c = search needs

@@ -1,11 +1,11 @@
--- `tree::rows::after` meets its contract.
+-- `tree::after` meets its contract.
 use Prim.Native.Nat.{_+_}
 use mathlib.Core.Path.{refl}
 use mathlib.Core.Logic.{inl, inr}
 use native.Mathlib.Omega.{arith}
 use borrow.Author.Needs.{needs}
-use Rattle.tree.proofs.rows.after.Statement.{statement}
-use Rattle.tree.proofs.rows.after.Tie as tie
+use Rattle.tree.proofs.after.Statement.{statement}
+use Rattle.tree.proofs.after.Tie as tie
 
 add-next : tie.Need-add-next
 add-next c = search needs
