@@ -49,12 +49,12 @@ fn of_the_rule() -> Vec<Case> {
     cases
 }
 
-fn sums() -> [Case; 4] {
+/// Long ones alone: of a short sum that is taken again and again a processor learns the order of the
+/// terms by heart.
+fn sums() -> [Case; 3] {
     let rng = &mut Rng::new(4);
     let [a, b] = [(); 2].map(|_| sparse(rng, FULL));
-    let [c, d] = [(); 2].map(|_| sparse(rng, 64));
     [
-        case("sum, 64 and 64 terms", combine(Operation::Sum, &c, &d)),
         case(
             "sum, 4,096 and 4,096 terms",
             combine(Operation::Sum, &a, &b),

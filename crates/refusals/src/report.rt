@@ -1,6 +1,7 @@
 // The report that every call on polynomials answers.
 ghost use mathlib.Core.Path.{_≡_};
 ghost use Rattle.refusals.specs.Reports.{refusal, done, orElse};
+use numbers::choose;
 
 // The number, the operand that it blames, a term index, and the terms of the first and the second output.
 #[repr(C)]
@@ -38,9 +39,17 @@ pub fn done(first: u64, second: u64) -> Report
     }
 }
 
-// The first of two reports if it refuses, else the second.
+// The first of two reports if it refuses, else the second. It is chosen number by number: a struct that is chosen as a whole is copied
+// through memory, and a call asks for some twenty refusals.
 pub fn or_else(a: Report, b: Report) -> Report
     ensures { λ r. ⌜ r ≡ orElse a b ⌝ }
 {
-    if a.number == 0 { b } else { a }
+    let passed = a.number == 0;
+    Report {
+        number: choose(passed, b.number, a.number),
+        operand: choose(passed, b.operand, a.operand),
+        index: choose(passed, b.index, a.index),
+        first: choose(passed, b.first, a.first),
+        second: choose(passed, b.second, a.second),
+    }
 }
