@@ -1,4 +1,6 @@
 // The refusals of a call, slice by slice: a call names the slices that it was lent, and asks for the first refusal that is due.
+#![tactic(auto)]
+
 ghost use Rattle.std.specs.Prelude.{◌≡◌};
 ghost use Rattle.refusals.specs.Rules.{lent};
 ghost use Rattle.dues.specs.Dues.{no_due, with_room, with_input, first_due};
@@ -8,7 +10,7 @@ use refusals::report::{Report, done, or_else};
 use refusals::rules::{at_term, long_rule, modulus_rule, odd_rule};
 
 // The first refusal of each kind, 2 to 6, that is due of the slices lent so far.
-#[derive(Drop)]
+#[derive(Clone, Copy)]
 pub struct Due {
     pub odd: Report,
     pub long: Report,

@@ -1,4 +1,6 @@
 // The terms of a product, written into the room one monomial after the other, and whether an exponent of it is too large.
+#![tactic(auto)]
+
 ghost use Rattle.std.specs.Prelude.{◌≡◌, ℕ, ◌*◌, ◌^◌, ◌<◌, ◌≤◌, length};
 ghost use Rattle.algebra.specs.Monomials.{exponent};
 ghost use Rattle.algebra.specs.Polynomials.{largest, mul};

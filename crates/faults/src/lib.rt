@@ -1,4 +1,6 @@
 // What is wrong with the terms of a slice: guard bits, order, coefficients.
+#![tactic(auto)]
+
 ghost use Rattle.std.specs.Prelude.{◌≡◌, ◌*◌, ◌+◌, ◌<◌, length};
 ghost use Rattle.monomial.specs.Layout.{base};
 ghost use Rattle.faults.specs.Faults.{guard_at, order_at, bad_coef_at, faults_of};
@@ -6,7 +8,7 @@ ghost use Rattle.faults.specs.Faults.{guard_at, order_at, bad_coef_at, faults_of
 use numbers::choose;
 
 // The first term with each kind of fault; the number of terms where there is none.
-#[derive(Drop)]
+#[derive(Clone, Copy)]
 pub struct Faults {
     pub guard: u64,
     pub order: u64,

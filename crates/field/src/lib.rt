@@ -1,4 +1,6 @@
 // Numbers modulo a prime p: the operations of RULES Field and Balanced.
+#![tactic(auto)]
+
 ghost use Rattle.std.specs.Prelude.{◌≡◌, ◌&&◌, ltb};
 ghost use Rattle.field.specs.Answers.{field_sum_of, field_product_of, refusal_of, no_value};
 
@@ -11,7 +13,7 @@ use moduli::{add_mod, modulus, mul_mod};
 
 // What an operation answers: reply 0 and the value, or the number of a refusal and 0.
 #[repr(C)]
-#[derive(Drop)]
+#[derive(Clone, Copy)]
 pub struct Value {
     pub number: u64,
     pub value: u64,
@@ -19,7 +21,7 @@ pub struct Value {
 
 // The same with a balanced value.
 #[repr(C)]
-#[derive(Drop)]
+#[derive(Clone, Copy)]
 pub struct Balance {
     pub number: u64,
     pub value: i32,

@@ -1,6 +1,8 @@
 // The library for programs in C, and in any language that calls C: every call of docs/RULES.md under its own name. A slice is a pointer
 // and its number of words; `include/garantepo.h` says what a host has to keep to. Each function is one call of the proved library, and
 // its contract cites the same definition.
+#![tactic(auto)]
+
 ghost use Rattle.std.specs.Prelude.{◌≡◌, []};
 ghost use Rattle.field.specs.Answers.{field_sum_of, field_product_of, inverse_of, balanced_of, residue_of};
 ghost use Rattle.monomial.specs.Layout.{base};

@@ -1,4 +1,6 @@
 // A tree that grows: its leaves move behind the records of a tree of more rows.
+#![tactic(auto)]
+
 ghost use Rattle.std.specs.Prelude.{◌*◌, ◌≤◌, length};
 ghost use Rattle.growth.specs.Growth.{LeafOf, Moved, Grown};
 

@@ -1,4 +1,6 @@
 // The greatest monomial of what remains: the dividend's next term, and all that waits in the tree at the same monomial.
+#![tactic(auto)]
+
 ghost use Rattle.std.specs.Prelude.{◌≡◌, ◌<◌, ◌≤◌, ◌^◌, max};
 ghost use Rattle.moduli.specs.Moduli.{limit};
 ghost use Rattle.poly.specs.Words.{records, word_at};

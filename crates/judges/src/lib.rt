@@ -1,4 +1,6 @@
 // What a walk computes once, and the judges that stop it.
+#![tactic(auto)]
+
 ghost use Rattle.std.specs.Prelude.{◌≡◌, true, ◌<◌, ◌≤◌, ◌^◌};
 ghost use Rattle.algebra.specs.Residues.{Prime};
 ghost use Rattle.moduli.specs.Moduli.{limit};
@@ -14,7 +16,7 @@ use poly::profile::largest_word;
 
 // Whether the call is the divide test; the words of the largest exponents of divisor and dividend, the second 0 where no test reads
 // it; the inverse of the divisor's lead coefficient; the terms that the rooms can hold.
-#[derive(Drop)]
+#[derive(Clone, Copy)]
 pub struct Plan {
     pub test: bool,
     pub maxima: u64,

@@ -1,4 +1,6 @@
 // Merging: two falling lists of terms, one monomial a turn.
+#![tactic(auto)]
+
 ghost use Rattle.std.specs.Prelude.{◌≡◌, ◌+◌, ◌*◌, ◌<◌, ◌≤◌, ◌^◌, length};
 ghost use Rattle.algebra.specs.Polynomials.{signed_coef};
 ghost use Rattle.moduli.specs.Moduli.{limit};
@@ -12,7 +14,7 @@ use numbers::{choose, greater};
 use poly::room::put_term;
 
 // The greatest monomial that is left of two inputs, its coefficient, and the places in both behind it.
-#[derive(Drop)]
+#[derive(Clone, Copy)]
 pub struct Lead {
     pub word: u64,
     pub coef: u64,
@@ -21,7 +23,7 @@ pub struct Lead {
 }
 
 // The record in front: its key and its coefficient, both 0 behind the last.
-#[derive(Drop)]
+#[derive(Clone, Copy)]
 pub struct Front {
     pub key: u64,
     pub coef: u64,

@@ -1,4 +1,6 @@
 // Numbers modulo a prime p: which p are taken, and the operations that loops call, for a modulus and operands that are known to be good.
+#![tactic(auto)]
+
 ghost use Rattle.std.specs.Prelude.{◌≡◌, ◌≤◌, ◌+◌, ◌-◌, ◌%◌, ◌<◌, ◌*◌};
 ghost use Rattle.algebra.specs.Residues.{is_prime, Prime, inverse};
 ghost use Rattle.moduli.specs.Moduli.{limit, modulus_of};

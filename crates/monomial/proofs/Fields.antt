@@ -172,7 +172,7 @@ module _ (w : ℕ) where
   fits_letters zero m = (λ h v. omega arith, λ f. refl)
   fits_letters (suc k) m =
       let rest = fits_letters k m.1 in (
-        λ h v. elim v [ zero ↦ fits-first k m h | suc v' ↦ rest.0 (fits_rest k m h) v' ],
+        λ h v. elim v as (λ i. exponent (suc k) i m ≤ largest_exponent w) [ zero ↦ fits-first k m h | suc v' ↦ rest.0 (fits_rest k m h) v' ],
         λ f. fits_more k m (f 0) (rest.1 (λ v. f (suc v))),
       )
 
@@ -226,7 +226,7 @@ pub divides_letters : (k : ℕ) (a b : (Letters k).Mon) → (divides k a b ≡ t
 divides_letters zero a b = (λ d v. omega arith, λ f. refl)
 divides_letters (suc k) a b =
     let rest = divides_letters k a.1 b.1 in (
-      λ d v. elim v [ zero ↦ divides-first k a b d | suc v' ↦ rest.0 (divides_rest k a b d) v' ],
+      λ d v. elim v as (λ i. exponent (suc k) i a ≤ exponent (suc k) i b) [ zero ↦ divides-first k a b d | suc v' ↦ rest.0 (divides_rest k a b d) v' ],
       λ f. both (le-leb a.0 b.0 (f 0)) (rest.1 (λ v. f (suc v))),
     )
 

@@ -1,4 +1,6 @@
 // Words of packed exponents: x in the top sixteen bits, then y, z and t, the top bit of each sixteen a guard bit.
+#![tactic(auto)]
+
 ghost use Rattle.std.specs.Prelude.{◌≡◌};
 ghost use Rattle.monomial.specs.Layout.{base, is_monomial, exponent_of, word_divides};
 ghost use Rattle.monomial.specs.Answers.{pack_of, unpack_of, word_product_of, word_quotient_of, product_value, quotient_value};
@@ -13,19 +15,19 @@ const LARGEST: u64 = 32767;
 
 // What unpacking answers: reply 0 and the exponents of x, y, z and t, or the number of a refusal and zeros.
 #[repr(C)]
-#[derive(Drop)]
+#[derive(Clone, Copy)]
 pub struct Exponents {
     pub number: u64,
     pub exponents: [u64; 4],
 }
 
-#[derive(Drop)]
+#[derive(Clone, Copy)]
 pub enum Product {
     Word(u64),
     TooBig,
 }
 
-#[derive(Drop)]
+#[derive(Clone, Copy)]
 pub enum Quotient {
     Word(u64),
     NoQuotient,

@@ -1,4 +1,6 @@
 // One of two numbers.
+#![tactic(auto)]
+
 ghost use Rattle.std.specs.Prelude.{◌≡◌, max, min};
 ghost use Rattle.algebra.specs.Residues.{pick};
 

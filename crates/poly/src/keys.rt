@@ -4,7 +4,7 @@ ghost use Rattle.poly.specs.Words.{records, word_at};
 ghost use Rattle.poly.specs.Keys.{key_at, head_at};
 
 // The coefficient of a monomial, and the place behind its record.
-#[derive(Drop)]
+#[derive(Clone, Copy)]
 pub struct Head {
     pub coef: u64,
     pub next: usize,

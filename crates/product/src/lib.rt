@@ -1,4 +1,6 @@
 // The product: the shorter factor's terms are the rows of the tree, the longer factor's terms its columns.
+#![tactic(auto)]
+
 ghost use Rattle.std.specs.Prelude.{◌≡◌, [], ◌*◌, ◌<◌, ◌≤◌, length};
 ghost use Rattle.moduli.specs.Moduli.{limit};
 ghost use Rattle.poly.specs.Words.{records, cleared};

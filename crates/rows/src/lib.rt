@@ -1,10 +1,12 @@
 // Whether the engine does what a row of the sheet says: it is lent arrays full of other words, and the report and every word that it
 // leaves are compared. Nothing is printed here: the program `sheet` does that.
+#![tactic(auto)]
+
 pub mod fields;
 pub mod polys;
 
 // A row tried: the number that the call answered, and whether its report and every word that it left are as the row says.
-#[derive(Drop)]
+#[derive(Clone, Copy)]
 pub struct Tried {
     pub number: u64,
     pub right: bool,

@@ -7,7 +7,7 @@ use poly::profile::{Profile, measure};
 use refusals::report::Report;
 
 #[repr(C)]
-#[derive(Drop)]
+#[derive(Clone, Copy)]
 pub struct Profiled {
     pub report: Report,
     pub profile: Profile,

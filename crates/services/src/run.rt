@@ -10,7 +10,7 @@ use refusals::rules::INPUT_TERMS;
 
 // A part of a slice, from one word up to another.
 #[repr(C)]
-#[derive(Drop)]
+#[derive(Clone, Copy)]
 pub struct Part {
     pub start: usize,
     pub end: usize,

@@ -17,7 +17,7 @@ use refusals::report::{Report, done, refusal};
 const CASES: u64 = 35;
 
 // How many cases were run, and how many of them are as the sheet says.
-#[derive(Drop)]
+#[derive(Clone, Copy)]
 pub struct Tally {
     pub cases: u64,
     pub right: u64,

@@ -1,6 +1,8 @@
 // Runs the examples of RULES Sheet through the engine, and prints a line for each case: its row, the call, the modulus, the
 // polynomials, the reply, and whether the report and every word lent are as the sheet says. The last line counts the cases. A program
 // in Rattle has no exit status: what this one has to print is stored beside it, and the gate compares.
+#![tactic(auto)]
+
 mod cases;
 mod fields;
 mod lines;

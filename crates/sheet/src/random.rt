@@ -13,7 +13,7 @@ pub const SEED: u64 = 20261115;
 pub const DRAWS: u64 = 400;
 
 // How the drawing stands: where the generator is, and how many divisions were as the sheet says.
-#[derive(Drop)]
+#[derive(Clone, Copy)]
 struct Drawn {
     seed: u64,
     right: u64,

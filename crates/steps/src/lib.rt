@@ -1,4 +1,6 @@
 // One step of the walk: the greatest monomial of what remains goes to the quotient or to the remainder, or was cancelled.
+#![tactic(auto)]
+
 ghost use Rattle.std.specs.Prelude.{◌≡◌, ℕ, suc, ◌+◌, ◌<◌, ◌^◌, max};
 ghost use Rattle.poly.specs.Words.{records, word_at};
 ghost use Rattle.tree.specs.Tree.{Live};
@@ -13,7 +15,7 @@ use poly::room::put_term;
 use tree::add;
 
 // The place in the dividend, the quotient and remainder terms written, and the reply that stopped the walk, 0 for none.
-#[derive(Drop)]
+#[derive(Clone, Copy)]
 pub struct State {
     pub next: usize,
     pub quotient: usize,

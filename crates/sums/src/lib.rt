@@ -1,4 +1,6 @@
 // Sum and difference.
+#![tactic(auto)]
+
 ghost use Rattle.std.specs.Prelude.{◌≡◌, []};
 ghost use Rattle.calls.specs.Outcomes.{outcome};
 ghost use Rattle.sums.specs.Sums.{sum_of, difference_of, combined_of};

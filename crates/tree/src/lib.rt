@@ -1,5 +1,7 @@
 // A winner tree in the work array, four words a row: it finds the greatest of the products for which the rows wait.
 // A climb touches one record a level, and nothing moves; a zeroed array is a tree in which nothing waits.
+#![tactic(auto)]
+
 ghost use Rattle.std.specs.Prelude.{◌≡◌, ℕ, ◌+◌, ◌*◌, ◌-◌, ◌<◌, ◌≤◌, ◌^◌, length};
 ghost use Rattle.moduli.specs.Moduli.{limit};
 ghost use Rattle.poly.specs.Words.{records, word_at};
@@ -9,7 +11,7 @@ ghost use Rattle.tree.specs.Tree.{Live, Sides, Settled, Greater, Next, Climbed, 
 const ROW: u64 = 0x100000000;
 
 // A record of the tree.
-#[derive(Drop)]
+#[derive(Clone, Copy)]
 pub struct Node {
     pub key: u64,
     pub tag: u64,

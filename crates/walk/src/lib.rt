@@ -1,4 +1,6 @@
 // The walk: one step after another, until nothing remains or a judge stops it.
+#![tactic(auto)]
+
 ghost use Rattle.std.specs.Prelude.{◌≡◌, ℕ, ◌*◌, ◌<◌, ◌≤◌, length, get_or};
 ghost use Rattle.judges.specs.Plans.{Ready};
 ghost use Rattle.walk.specs.Running.{Fresh, Enough, Ran};

@@ -1,0 +1,24 @@
+-- `monomial::divides` meets its contract: both words are tested at once, then what is left of the guard bits after the difference.
+use mathlib.Core.Path.{◌≡◌, ◌∙◌, sym}
+use mathlib.Core.Bool.{true}
+use borrow.Author.Tests.{not-true, not-false}
+use Rattle.monomial.specs.Layout.{base, is_monomial}
+use Rattle.monomial.proofs.Masks.{both_monomials, lent_covers, mask_divides, divides-none}
+use Rattle.monomial.proofs.divides.Goals as goal
+use Rattle.monomial.proofs.divides.Goals.{Else-not-is_monomial}
+
+pub returns-then-not-is_monomial : goal.returns-then-not-is_monomial
+returns-then-not-is_monomial c =
+    sym (divides-none 15 4 c.args.m c.args.n
+    (sym c.is_monomial.ensures ∙ c.if-not-is_monomial.true))
+
+monomials : (c : Else-not-is_monomial) → (is_monomial base c.args.m ≡ true) × (is_monomial base c.args.n ≡ true)
+monomials c =
+    both_monomials 15 4 c.args.m c.args.n
+    (sym c.is_monomial.ensures ∙ c.if-not-is_monomial.false)
+
+pub overflow_sub-result : goal.overflow_sub-result
+overflow_sub-result c = lent_covers 15 4 c.args.m c.args.n (monomials c).0 (monomials c).1
+
+pub returns : goal.returns
+returns c = mask_divides 15 4 c.args.m c.args.n (monomials c).0 (monomials c).1

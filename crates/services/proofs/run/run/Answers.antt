@@ -1,0 +1,32 @@
+-- `services::run::run` meets its contract.
+use Prim.Native.Nat.{◌≤◌, ◌+◌, ◌*◌}
+use mathlib.Core.Path.{◌≡◌, refl}
+use native.Mathlib.Omega.{arith}
+use lib.ListN.{length}
+use Rattle.services.specs.Services.{run_of}
+use Rattle.services.proofs.Parts.{run_within}
+use Rattle.services.proofs.run.run.Goals as goal
+use Rattle.services.proofs.run.run.Goals.{After-run_part-part}
+
+-- the part is within the slice
+within : (c : After-run_part-part) → (c.run_part-part.result.start ≤ c.run_part-part.result.end) × (c.run_part-part.result.end ≤ length c.args.s.now)
+within c = rw c.run_part-part.ensures (run_within c.args.s.now c.args.power)
+
+pub offset_bounds-s-start : goal.offset_bounds-s-start
+offset_bounds-s-start c = omega (arith, within c)
+
+pub slice_bounds-result-count : goal.slice_bounds-result-count
+slice_bounds-result-count c = omega (arith, within c)
+
+pub slice_bounds-result-start : goal.slice_bounds-result-start
+slice_bounds-result-start c = omega (arith, within c)
+
+pub slice_bounds-result-end : goal.slice_bounds-result-end
+slice_bounds-result-end c = omega (arith, within c)
+
+pub returns : goal.returns
+returns c =
+    let a = c.args.s.ref_ptr in
+    let n = (run_of c.args.s.now c.args.power).start in
+    let e : n * 8 + a.1 ≡ a.1 + 8 * n = omega arith in
+    rw c.run_part-part.ensures (refl, λ d. (a.0, e d))

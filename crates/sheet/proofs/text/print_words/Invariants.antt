@@ -1,0 +1,10 @@
+-- `sheet::text::print_words` ends, and stays within the array.
+use Prim.Native.Nat.{◌-◌}
+use lib.ListN.{length}
+use Rattle.sheet.proofs.text.print_words.Given as goal
+
+abbrev pub invariant-loop-i : goal.invariant-loop-i
+invariant-loop-i l = Unit
+
+abbrev pub decreases-loop-i : goal.decreases-loop-i
+decreases-loop-i l = length l.s - l.i
