@@ -10,8 +10,8 @@
  * monomial words.
  *
  * The library is libgarantepo.a (-lgarantepo, or what `pkg-config --cflags --libs garantepo` says),
- * for x86-64 Linux alone. The command `rt staticlib garantepo` proves it and writes it to
- * target/staticlib; examples/cancel.c is a program that links it.
+ * for x86-64 Linux alone. The command `rt lib` in crates/garantepo proves it and writes it to the
+ * folder out there; examples/cancel.c is a program that links it.
  */
 #ifndef GARANTEPO_H
 #define GARANTEPO_H

@@ -1,5 +1,5 @@
 //! Tells the linker where the engine's static library is: the folder named by GARANTEPO_LIB, or the
-//! one that `rt staticlib garantepo` writes to.
+//! one that `rt lib` in `crates/garantepo` writes to.
 
 use std::env;
 use std::path::{Path, PathBuf};
@@ -16,5 +16,5 @@ fn main() {
 }
 
 fn folder_of_rt() -> PathBuf {
-    Path::new(env!("CARGO_MANIFEST_DIR")).join("../../target/staticlib")
+    Path::new(env!("CARGO_MANIFEST_DIR")).join("../../crates/garantepo/out")
 }

@@ -1,8 +1,8 @@
 -- Properties of every monomial of a polynomial.
 --
---   all_map           a property that follows from another
---   all_append        of a sum
---   negated_all, signed_all      of −f, and of f or −f
+--   all_map                   a property that follows from another
+--   all_append                of a sum
+--   negated_all, signed_all   of −f, and of f or −f
 use Prim.Native.Nat.{ℕ}
 use mathlib.Core.Bool.{Bool, true, false}
 use mathlib.Core.List.{[], ◌∷◌, ◌++◌}

@@ -1,11 +1,11 @@
 -- A walk clause by clause, and what was written before it.
 --
---   joined-quotient, joined-remainder      with a term more that passed
---   quotient-stopped, remainder-stopped    a judge's reply other than 0 is the walk's
---   walk-ends              nothing is left
---   walk_skips             the greatest monomial was cancelled
---   walk-quotient          the divisor's lead divides the greatest monomial: its quotient term goes to the judge
---   walk-remainder         the lead does not divide it: it goes to the judge of the remainder
+--   joined-quotient, joined-remainder     with a term more that passed
+--   quotient-stopped, remainder-stopped   a judge's reply other than 0 is the walk's
+--   walk-ends                             nothing is left
+--   walk_skips                            the greatest monomial was cancelled
+--   walk-quotient                         the divisor's lead divides the greatest monomial: its quotient term goes to the judge
+--   walk-remainder                        the lead does not divide it: it goes to the judge of the remainder
 use Prim.Native.Nat.{ℕ, zero, suc, ◌<◌}
 use mathlib.Core.Path.{◌≡◌, refl, sym, ◌∙◌, ap}
 use mathlib.Core.List.{[], ◌∷◌, ◌++◌, append_assoc}

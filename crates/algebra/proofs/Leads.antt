@@ -1,12 +1,12 @@
 -- Leads of products, and the uniqueness of division.
 --
---   normal_tail               what follows the lead of a normal polynomial is normal
---   lead-nonzero               the number of a normal polynomial's lead is not the same as 0
---   times_below, mul_below    products of smaller monomials are smaller
---   lead-mul                  the lead of a product is the product of the leads
---   mul-lead-coef             a product of nonzero polynomials has a coefficient at the product of the leads
---   multiple_zero             a multiple of g that has no term divisible by g's lead is zero
---   division_unique           f ≡ q · g + r with no monomial of r divisible by g's lead: the only such pair, against any lists q', r'
+--   normal_tail              what follows the lead of a normal polynomial is normal
+--   lead-nonzero             the number of a normal polynomial's lead is not the same as 0
+--   times_below, mul_below   products of smaller monomials are smaller
+--   lead-mul                 the lead of a product is the product of the leads
+--   mul-lead-coef            a product of nonzero polynomials has a coefficient at the product of the leads
+--   multiple_zero            a multiple of g that has no term divisible by g's lead is zero
+--   division_unique          f ≡ q · g + r with no monomial of r divisible by g's lead: the only such pair, against any lists q', r'
 use Prim.Native.Nat.{ℕ, zero, suc, ◌+◌, ◌-◌, ◌*◌, ◌%◌, ◌<◌, ◌≤◌}
 use mathlib.Core.Path.{◌≡◌, refl, sym, ◌∙◌, ap, subst}
 use mathlib.Core.List.{[], ◌∷◌, ◌++◌}

@@ -1,13 +1,13 @@
 -- Laws of prime moduli.
 --
---   prime_of_test, test_of_prime     is_prime p just where p is a prime
---   below_not_zero                   a number from 1 to p − 1 is not the same as 0
---   one_not_zero                     1 is not the same as 0
---   inverse_law                      a · inverse p a is the same as 1, where a is not the same as 0
---   inverse_below  inverse p a is 1 to p − 1 there
---   mod-cancel                       a factor that is not the same as 0 may go on both sides
---   euclid                           a product that is the same as 0 has a factor that is
---   inverse_unique                   no other number below p times a is the same as 1
+--   prime_of_test, test_of_prime   is_prime p just where p is a prime
+--   below_not_zero                 a number from 1 to p − 1 is not the same as 0
+--   one_not_zero                   1 is not the same as 0
+--   inverse_law                    a · inverse p a is the same as 1, where a is not the same as 0
+--   inverse_below                  inverse p a is 1 to p − 1 there
+--   mod-cancel                     a factor that is not the same as 0 may go on both sides
+--   euclid                         a product that is the same as 0 has a factor that is
+--   inverse_unique                 no other number below p times a is the same as 1
 use Prim.Native.Nat.{ℕ, zero, suc, ◌+◌, ◌-◌, ◌*◌, ◌/◌, ◌%◌, ◌<◌, ◌≤◌, ◌∣◌}
 use mathlib.Core.Path.{◌≡◌, sym, ◌∙◌, ap}
 use mathlib.Core.Bool.{Bool, true, false}

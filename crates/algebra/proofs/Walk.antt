@@ -1,10 +1,10 @@
 -- What a walk of division has written, at every step.
 --
---   quotient-coef       the quotient term's number times the lead's number is the number divided
---   step_equation         taking one quotient multiple away
---   Divides f w           after the walk w down f: f ≡ q · g + (r + what is left), no term of r divisible by g's lead, q and r normal,
---                         what is left falls
---   walk-divides          every walk divides, whatever its judges and however many its steps
+--   quotient-coef   the quotient term's number times the lead's number is the number divided
+--   step_equation   taking one quotient multiple away
+--   Divides f w     after the walk w down f: f ≡ q · g + (r + what is left), no term of r divisible by g's lead, q and r normal,
+--                   what is left falls
+--   walk-divides    every walk divides, whatever its judges and however many its steps
 use Prim.Native.Nat.{ℕ, suc, ◌+◌, ◌*◌, ◌%◌, ◌<◌}
 use mathlib.Core.Path.{◌≡◌, refl, sym, ◌∙◌, ap, subst}
 use mathlib.Core.List.{[], ◌∷◌, ◌++◌}

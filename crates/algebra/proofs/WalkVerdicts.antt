@@ -7,7 +7,7 @@
 --   next-coef                a term of h's normal form stands at a monomial where h has a coefficient
 --   exact_done               where f ≡ h · g, a walk that replies 0 has written h's normal form
 --   Trouble, stop_trouble    where a walk was stopped: f ≡ q · g + r + what is left, and what the judge said of its greatest term
-use Prim.Native.Nat.{ℕ, zero, ◌+◌, ◌<◌}
+use Prim.Native.Nat.{ℕ, ◌+◌, ◌<◌}
 use mathlib.Core.Path.{◌≡◌, refl, sym, ◌∙◌, ap, subst}
 use mathlib.Core.List.{[], ◌∷◌, ◌++◌, append-nil}
 use mathlib.Core.Logic.{◌⊎◌, inl, inr}

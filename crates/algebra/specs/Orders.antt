@@ -1,12 +1,12 @@
 -- Orders of monomials that agree with multiplication.
 --
---   Tri A B C       one of three cases, each with its proof
---   Order K         an order of the monomials of K: a strict order that decides between any two, and that multiplication keeps
---   Rising          whole numbers by size
---   Lex k           monomials in k letters in lexicographic order, the first letter first
---   Weight K        a number for each monomial that adds up under multiplication
---   exponents k v, degrees k    the weights: the exponent of letter v, and the sum of the exponents
---   Weighted O w    by the weight w, and by O where two weights are equal
+--   Tri A B C                  one of three cases, each with its proof
+--   Order K                    an order of the monomials of K: a strict order that decides between any two, and that multiplication keeps
+--   Rising                     whole numbers by size
+--   Lex k                      monomials in k letters in lexicographic order, the first letter first
+--   Weight K                   a number for each monomial that adds up under multiplication
+--   exponents k v, degrees k   the weights: the exponent of letter v, and the sum of the exponents
+--   Weighted O w               by the weight w, and by O where two weights are equal
 use Rattle.std.specs.Prelude.{ℕ, zero, suc, ◌+◌, ◌<◌, ◌≡◌, refl, ◌⊎◌}
 use Rattle.std.proofs.Common.{sym, ◌∙◌, ap, inl, inr, lt_irrefl, lt_trans, arith}
 use Rattle.std.proofs.Math.Decide.{dec_lt}

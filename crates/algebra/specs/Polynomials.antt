@@ -10,7 +10,7 @@
 --   mul f g                 the product: every term of f times every term of g
 --   negated p f             −f: every number times p − 1, which is −1 modulo p
 --   signed p minus f        f, or −f
---   signed_coef p minus c    the coefficient c, or −c, reduced
+--   signed_coef p minus c   the coefficient c, or −c, reduced
 --   largest w f             the largest w of a monomial of f, 0 where f has no term: M(f, v) for w the exponent of v
 --   sorted O p f            f with one term for each monomial that stands in it, the greatest first, numbers below p, perhaps 0
 --   norm O p f              the same without the terms whose number is 0: the normal form

@@ -4,7 +4,7 @@
 --   FirstOf t n i   i is the first of the numbers below n that pass the test t
 --   Same p a b      a and b leave the same remainder modulo p
 --   Prime p         p is at least 2, and only 1 and p divide it
---   is_prime p       the same as a test that computes
+--   is_prime p      the same as a test that computes
 --   inverse p a     the first x from 1 to p − 1 with a · x ≡ 1 modulo p; p if there is none
 use Rattle.std.specs.Prelude.{ℕ, zero, suc, ◌*◌, ◌-◌, ◌%◌, ◌<◌, ◌≤◌, ◌≡◌, Bool, true, false, ◌&&◌, ◌⊎◌, eqb, leb}
 use Rattle.std.specs.Int.{◌∣◌}

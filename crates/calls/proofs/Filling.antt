@@ -1,9 +1,9 @@
 -- A room is filled with the normal form of a polynomial, from its greatest monomial down.
 --
---   Step                   the greatest monomial of what is left, its coefficient, and what is left behind it
---   Filling                n records of the room are written, and the normal form of what is left belongs behind them
---   fill-starts, fill_skips, fill_writes     nothing yet; a coefficient of 0; a term more
---   fill_full, fill-ends   the two ways out: a term is due and the room is full; nothing is left
+--   Step                                   the greatest monomial of what is left, its coefficient, and what is left behind it
+--   Filling                                n records of the room are written, and the normal form of what is left belongs behind them
+--   fill-starts, fill_skips, fill_writes   nothing yet; a coefficient of 0; a term more
+--   fill_full, fill-ends                   the two ways out: a term is due and the room is full; nothing is left
 use Prim.Native.Nat.{ℕ, suc, ◌+◌, ◌/◌, ◌<◌, ◌≤◌}
 use mathlib.Core.Path.{◌≡◌, refl, sym, ◌∙◌, ap, subst}
 use mathlib.Core.List.{List, [], ◌∷◌, ◌++◌, append-nil, append_assoc}

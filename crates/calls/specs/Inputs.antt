@@ -1,7 +1,7 @@
 -- What calls on two polynomials are lent.
 --
---   inputs a b               two slices lent as the first and the second input
---   two_inputs p a b room     the refusals 1 to 6 of a call with two inputs and one room
+--   inputs a b              two slices lent as the first and the second input
+--   two_inputs p a b room   the refusals 1 to 6 of a call with two inputs and one room
 use Rattle.std.specs.Prelude.{ℕ, List, [], ◌∷◌}
 use Rattle.monomial.specs.Layout.{base}
 use Rattle.refusals.specs.Rules.{Lent, lent, input_terms, room_terms, refusals}

@@ -1,12 +1,12 @@
 -- What a call leaves behind: its report, the words of its outputs, and those of its work array.
 --
---   Outcome                            report, first and second output, and work; a list is empty where the call has no such array
---   unless_refused rs a b w then        the refusal that is due, with all arrays as they were; else what the call does then
---   told reply n m                     the report of a call that was not refused: with reply 0 the terms of its outputs
---   holding reply f room               what it leaves in a room: with reply 0 the terms of f, then zero words; else zero words alone
---   ended reply f g a b w              all that it leaves; the work array is zero
---   called rs reply f g a b w          a whole call: refused by the first of its rules that is due, else ended
---   room_reply n room                   10 where a room has too few places for n terms, else 0
+--   Outcome                        report, first and second output, and work; a list is empty where the call has no such array
+--   unless_refused rs a b w then   the refusal that is due, with all arrays as they were; else what the call does then
+--   told reply n m                 the report of a call that was not refused: with reply 0 the terms of its outputs
+--   holding reply f room           what it leaves in a room: with reply 0 the terms of f, then zero words; else zero words alone
+--   ended reply f g a b w          all that it leaves; the work array is zero
+--   called rs reply f g a b w      a whole call: refused by the first of its rules that is due, else ended
+--   room_reply n room              10 where a room has too few places for n terms, else 0
 use Rattle.std.specs.Prelude.{ℕ, List, eqb, leb, length}
 use Rattle.algebra.specs.Residues.{pick}
 use Rattle.algebra.specs.Monomials.{Letters}

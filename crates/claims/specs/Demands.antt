@@ -1,17 +1,17 @@
 -- What the three demands speak of.
 --
---   Answered               a call may be made with these arguments, and has one outcome
---   Afterwards n s s'      what the table of replies says of words s that were lent for writing and are s' after the refusal n
---   Single n p good        the reply n of a single field operation: 1 first, then 6
---   Ring p                 the polynomials in four letters over the integers modulo p are a commutative ring: f ++ g is the sum, mul the
---                          product, negated the negative, [] zero, and equality is that of all coefficients modulo p
---   front n s              the polynomial of the first n terms of a slice
---   Result p f h           f is the polynomial h, written in falling lexicographic order with coefficients 1 to p − 1
---   Combined               all that is claimed of a call that puts the normal form of h, the sum or the difference of a and b, into a room
---   lead g                 the lead monomial of a slice
---   Pair p f g m q r       f = q·g + r, and no term of r is divisible by the monomial m
---   Factor p f g h         h times g is f
---   term_count p h          how many terms the polynomial h has
+--   Answered            a call may be made with these arguments, and has one outcome
+--   Afterwards n s s'   what the table of replies says of words s that were lent for writing and are s' after the refusal n
+--   Single n p good     the reply n of a single field operation: 1 first, then 6
+--   Ring p              the polynomials in four letters over the integers modulo p are a commutative ring: f ++ g is the sum, mul the
+--                       product, negated the negative, [] zero, and equality is that of all coefficients modulo p
+--   front n s           the polynomial of the first n terms of a slice
+--   Result p f h        f is the polynomial h, written in falling lexicographic order with coefficients 1 to p − 1
+--   Combined            all that is claimed of a call that puts the normal form of h, the sum or the difference of a and b, into a room
+--   lead g              the lead monomial of a slice
+--   Pair p f g m q r    f = q·g + r, and no term of r is divisible by the monomial m
+--   Factor p f g h      h times g is f
+--   term_count p h      how many terms the polynomial h has
 use Rattle.std.specs.Prelude.{ℕ, ◌*◌, ◌<◌, ◌≤◌, ◌≡◌, Bool, true, false, List, [], ◌∷◌, ◌++◌, ◌⊎◌, ◌↔◌, length, take}
 use Rattle.algebra.specs.Residues.{Prime}
 use Rattle.algebra.specs.Monomials.{Letters}

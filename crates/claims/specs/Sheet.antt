@@ -1,16 +1,16 @@
 -- The examples of RULES Sheet: its rows marked [P], each a call, what it is lent, and what it has to leave behind.
 --
---   c x^ i, c x^ i y^ j     the terms c · x^i and c · x^i · y^j; a number −c is p − c
---   words f                 the words of a polynomial
---   dirty n                 n words, none of them 0: what an array may hold when it is lent
---   zeros n                 n zero words
---   report n o i a b        a report by its five numbers: number, operand, index, first count, second count
---   balance n v, minus n    an answer of the balanced value, by its number and its value; the value −n
---   Row                     a call by its name: modulus, inputs, the arrays lent, and what it has to leave
---   Holds row               what the call's contract says that it leaves, report and every word lent, is what the row says
---   right row               the same as a test that computes, by tests of words, reports and outcomes that are the same
---   AllHold, all_right       the same of every row of a list
---   a₁, b₁, .. rows         the polynomials of the sheet, and the sheet
+--   c x^ i, c x^ i y^ j    the terms c · x^i and c · x^i · y^j; a number −c is p − c
+--   words f                the words of a polynomial
+--   dirty n                n words, none of them 0: what an array may hold when it is lent
+--   zeros n                n zero words
+--   report n o i a b       a report by its five numbers: number, operand, index, first count, second count
+--   balance n v, minus n   an answer of the balanced value, by its number and its value; the value −n
+--   Row                    a call by its name: modulus, inputs, the arrays lent, and what it has to leave
+--   Holds row              what the call's contract says that it leaves, report and every word lent, is what the row says
+--   right row              the same as a test that computes, by tests of words, reports and outcomes that are the same
+--   AllHold, all_right     the same of every row of a list
+--   a₁, b₁, .. rows        the polynomials of the sheet, and the sheet
 use Rattle.std.specs.Prelude.{ℕ, zero, suc, ◌≡◌, Bool, true, false, ◌&&◌, List, [], ◌∷◌, ◌++◌, eqb, replicate, ℤ, pos, negsuc, neg_ℤ}
 use Rattle.algebra.specs.Monomials.{Letters}
 use Rattle.algebra.specs.Polynomials.{Term, term, Poly}

@@ -1,9 +1,9 @@
 -- What division with remainder and the divide test do.
 --
---   last_rules g q work           the refusals 7 and 8: the divisor is zero; the work has fewer than four words for each term of q
---   divide_rules, test_rules       the refusals 1 to 8 of each call
---   divide_of p f g q r work      division of f by g, with the rooms q and r
---   test_of p f g q work          the divide test of f by g, with the room q
+--   last_rules g q work        the refusals 7 and 8: the divisor is zero; the work has fewer than four words for each term of q
+--   divide_rules, test_rules   the refusals 1 to 8 of each call
+--   divide_of p f g q r work   division of f by g, with the rooms q and r
+--   test_of p f g q work       the divide test of f by g, with the room q
 use Rattle.std.specs.Prelude.{ℕ, ◌*◌, List, [], ◌∷◌, ◌++◌}
 use Rattle.monomial.specs.Layout.{base}
 use Rattle.poly.specs.Words.{records}

@@ -1,11 +1,11 @@
 -- The refusals of a call slice by slice, as the engine finds them: of each of 2 to 6 the first that is due so far. That asking in this way
 -- gives the first refusal of the ordered list is a law, `dues_first`; no public promise cites this file.
 --
---   no_due                      no slice was lent yet
---   with_room d s               one more slice: 2 and 3
---   with_input p d s            one more slice that has to be a polynomial modulo p: 2 to 6
---   with_rooms, with_inputs      the same of several slices, in their order
---   first_due p d otherwise     the first refusal due of 1 to 6, else the report given
+--   no_due                    no slice was lent yet
+--   with_room d s             one more slice: 2 and 3
+--   with_input p d s          one more slice that has to be a polynomial modulo p: 2 to 6
+--   with_rooms, with_inputs   the same of several slices, in their order
+--   first_due p d otherwise   the first refusal due of 1 to 6, else the report given
 use Rattle.std.specs.Prelude.{ℕ, List, [], ◌∷◌}
 use Rattle.monomial.specs.Layout.{base}
 use Rattle.refusals.specs.Reports.{none, or_else}

@@ -1,7 +1,7 @@
 -- Which products have an exponent that is too large.
 --
---   burst_at f g      the first letter v with M(f, v) + M(g, v) over the largest exponent; the number of letters if none
---   Bursts a b       some letter v has M(a, v) + M(b, v) over the largest exponent
+--   burst_at f g   the first letter v with M(f, v) + M(g, v) over the largest exponent; the number of letters if none
+--   Bursts a b     some letter v has M(a, v) + M(b, v) over the largest exponent
 use Rattle.std.specs.Prelude.{ℕ, ◌+◌, ◌<◌, List, ltb}
 use Rattle.algebra.specs.Residues.{first}
 use Rattle.algebra.specs.Monomials.{Letters, exponent}

@@ -1,9 +1,9 @@
 -- What can be wrong with a term, as RULES Replies has it in 4, 5 and 6.
 --
---   guard_at l s i       a guard bit is set in the monomial of term i
---   order_at s i         the monomial of term i is not below the one before
---   bad_coef_at p s i     the coefficient of term i is 0 or at least p
---   faults_of l p s      the first term with each of them in a slice; the number of terms where there is none
+--   guard_at l s i      a guard bit is set in the monomial of term i
+--   order_at s i        the monomial of term i is not below the one before
+--   bad_coef_at p s i   the coefficient of term i is 0 or at least p
+--   faults_of l p s     the first term with each of them in a slice; the number of terms where there is none
 use Rattle.std.specs.Prelude.{ℕ, zero, suc, Bool, false, not, ◌||◌, List, eqb, leb}
 use Rattle.algebra.specs.Residues.{first}
 use Rattle.monomial.specs.Layout.{Layout, is_monomial}

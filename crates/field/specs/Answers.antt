@@ -4,8 +4,8 @@
 --   refusal_of p good        the refusal that is due of a modulus and operands, 0 where none is
 --   or_refused               an answer, or the refusal that is due in its place
 --   value, no_value          reply 0 with a value; a refusal with the value 0
---   field_sum_of p a b        the answer of the sum: a + b modulo p
---   field_product_of p a b    of the product: a · b modulo p
+--   field_sum_of p a b       the answer of the sum: a + b modulo p
+--   field_product_of p a b   of the product: a · b modulo p
 --   inverse_of p a           of the inverse: the x from 1 to p − 1 with a · x ≡ 1 modulo p; 0 has none
 --   balanced_value p c       the balanced value of the residue c: c where 2c is at most p, else c − p
 --   balanced_of p c          the answer with it

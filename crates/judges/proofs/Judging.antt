@@ -1,10 +1,10 @@
 -- The judges on words.
 --
---   prepared               a plan with the words and the inverse of good inputs is ready
---   divisor_monomial       the word of the divisor's maxima is a monomial
---   reply-word             what a judge says of a quotient term, by its word
---   remainder_reply_lem, remainder-room      the same of a remainder term
---   by_passes, passes_room, passes_fits      where a quotient term passes there is room, and its products with the divisor's terms fit
+--   prepared                              a plan with the words and the inverse of good inputs is ready
+--   divisor_monomial                      the word of the divisor's maxima is a monomial
+--   reply-word                            what a judge says of a quotient term, by its word
+--   remainder_reply_lem, remainder-room   the same of a remainder term
+--   by_passes, passes_room, passes_fits   where a quotient term passes there is room, and its products with the divisor's terms fit
 use Prim.Native.Nat.{ℕ, ◌+◌, ◌^◌, ◌≤◌, ◌<◌}
 use mathlib.Core.Path.{◌≡◌, refl, sym, ◌∙◌, ap}
 use mathlib.Core.Bool.{Bool, true, false}

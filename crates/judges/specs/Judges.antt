@@ -1,13 +1,13 @@
 -- What stops a walk: the judges of division and of the divide test.
 --
---   unless_full i room n          the reply n where a room for so many terms already holds them
---   division_judges g q r         division's stops, with room for q quotient and r remainder terms: 9 where an exponent of the
---                                quotient term plus M(g, v) is over the largest, else 10 where the quotient room is full; 11
---                                where the remainder room is full
---   test_judges f g q             the divide test's: 12 where an exponent of the quotient term plus M(g, v) is over M(f, v), else
---                                10 where the room is full; 12 for any remainder term
---   steps                        more steps than a walk takes: more than there are monomial words
---   walk_by p J f g               the walk down f by the divisor g
+--   unless_full i room n    the reply n where a room for so many terms already holds them
+--   division_judges g q r   division's stops, with room for q quotient and r remainder terms: 9 where an exponent of the
+--                           quotient term plus M(g, v) is over the largest, else 10 where the quotient room is full; 11
+--                           where the remainder room is full
+--   test_judges f g q       the divide test's: 12 where an exponent of the quotient term plus M(g, v) is over M(f, v), else
+--                           10 where the room is full; 12 for any remainder term
+--   steps                   more steps than a walk takes: more than there are monomial words
+--   walk_by p J f g         the walk down f by the divisor g
 use Rattle.std.specs.Prelude.{ℕ, ◌^◌, [], ◌∷◌, ltb}
 use Rattle.algebra.specs.Residues.{pick}
 use Rattle.algebra.specs.Monomials.{Letters}

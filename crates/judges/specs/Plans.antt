@@ -1,9 +1,9 @@
 -- What a walk computes once, and its judges on words: what the engine's own functions promise one another.
 --
 --   judges_by, judges_of   the stops of a call: division's, or the divide test's
---   quotient_reply        what the judge of quotient terms says of a word
---   remainder_reply       what the judge of remainder terms says
---   Ready                all that a walk asks of its inputs, and what was computed once
+--   quotient_reply         what the judge of quotient terms says of a word
+--   remainder_reply        what the judge of remainder terms says
+--   Ready                  all that a walk asks of its inputs, and what was computed once
 use Rattle.std.specs.Prelude.{ℕ, ◌+◌, ◌^◌, ◌<◌, ◌≤◌, ◌≡◌, Bool, true, false, List}
 use Rattle.algebra.specs.Residues.{Prime, inverse, pick}
 use Rattle.algebra.specs.Monomials.{Letters}

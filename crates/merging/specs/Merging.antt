@@ -1,8 +1,8 @@
 -- Sum and difference by merging: what the engine's own functions promise one another. No caller of a public function meets it.
 --
---   unmerged p minus a b i j     the terms of a from record i on, and those of b, signed, from record j on
---   front_at s i                  the key of record i and its coefficient; both 0 behind the last record
---   Greatest                     the greatest monomial of what is unmerged, its coefficient, and the places behind it
+--   unmerged p minus a b i j   the terms of a from record i on, and those of b, signed, from record j on
+--   front_at s i               the key of record i and its coefficient; both 0 behind the last record
+--   Greatest                   the greatest monomial of what is unmerged, its coefficient, and the places behind it
 use Rattle.std.specs.Prelude.{ℕ, ◌+◌, ◌-◌, ◌<◌, ◌≤◌, Bool, List, ◌∷◌, ◌++◌, ltb}
 use Rattle.algebra.specs.Residues.{pick}
 use Rattle.algebra.specs.Monomials.{Numbers}

@@ -1,11 +1,11 @@
 -- Laws of moduli, and of numbers modulo them.
 --
---   modulus_prime, modulus_within    a modulus is a prime, and at most the limit
---   modulus_of_lem                       and a prime up to the limit is a modulus
---   modulus-test                     the reply r is 0 just where p is a modulus, as a test
---   modulus_passed, modulus-refused  a reply r of 0 says that p is a modulus, any other that it is not
---   modulus-done                     reply 0 is given exactly when p is a prime up to the limit
---   negative_same                    p − a, reduced, is the same as (p − 1) · a: −a in two forms
+--   modulus_prime, modulus_within     a modulus is a prime, and at most the limit
+--   modulus_of_lem                    and a prime up to the limit is a modulus
+--   modulus-test                      the reply r is 0 just where p is a modulus, as a test
+--   modulus_passed, modulus-refused   a reply r of 0 says that p is a modulus, any other that it is not
+--   modulus-done                      reply 0 is given exactly when p is a prime up to the limit
+--   negative_same                     p − a, reduced, is the same as (p − 1) · a: −a in two forms
 use Prim.Native.Nat.{ℕ, ◌≤◌, ◌+◌, ◌-◌, ◌*◌, ◌%◌, ◌<◌}
 use mathlib.Core.Path.{◌≡◌, refl, sym, ◌∙◌, ap}
 use mathlib.Core.Bool.{Bool, true, false}

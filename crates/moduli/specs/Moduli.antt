@@ -1,8 +1,8 @@
 -- Which numbers are moduli.
 --
---   limit           the greatest modulus
---   is_modulus p     p is a prime, and at most the limit
---   modulus_of p     the reply: 0 where p is a modulus, else 1
+--   limit          the greatest modulus
+--   is_modulus p   p is a prime, and at most the limit
+--   modulus_of p   the reply: 0 where p is a modulus, else 1
 use Rattle.std.specs.Prelude.{ℕ, Bool, ◌&&◌, leb}
 use Rattle.algebra.specs.Residues.{is_prime, pick}
 

@@ -1,10 +1,10 @@
 -- What each call answers: a number, 0 for done, and a value.
 --
 --   pack_of l m              packing the exponents of m: 4 where one is over the largest
---   listed k m              the k exponents of m as a list
+--   listed k m               the k exponents of m as a list
 --   unpack_of l word         the exponents of a word: 4, and zeros, where a guard bit is set
---   word_product_of l m n     the product of two words: 9 where an exponent of it is over the largest
---   word_quotient_of l n m    the quotient of two words: 12 where m does not divide n
+--   word_product_of l m n    the product of two words: 9 where an exponent of it is over the largest
+--   word_quotient_of l n m   the quotient of two words: 12 where m does not divide n
 --   product_value            the number and the value of each case of `Product`
 --   quotient_value           the number and the value of each case of `Quotient`
 use Rattle.std.specs.Prelude.{ℕ, zero, suc, List, [], ◌∷◌}

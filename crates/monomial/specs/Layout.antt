@@ -1,15 +1,15 @@
 -- The layout of a monomial word: fields side by side, one exponent in each, the first letter's at the top.
 --
---   Layout                 the number of fields, and the bits of each, the top one a guard bit
---   base                   four fields of sixteen bits, for x, y, z and t
+--   Layout                  the number of fields, and the bits of each, the top one a guard bit
+--   base                    four fields of sixteen bits, for x, y, z and t
 --   largest_exponent w      the largest exponent of a field of w bits: every bit set but the guard bit
 --   exponents_of w k word   the exponents in the word's k fields of w bits
 --   word_of w k m           the word with the exponents of m in its k fields of w bits
---   fits w k m             no exponent of m is over the largest
+--   fits w k m              no exponent of m is over the largest
 --   is_monomial l word      the word has no bit outside the layout's fields, and no guard bit is set
 --   exponent_of l word v    the exponent of letter v (0 the first) in the word
---   divides k m n          each exponent of m is at most n's
---   over k n m             the exponents of n less those of m
+--   divides k m n           each exponent of m is at most n's
+--   over k n m              the exponents of n less those of m
 --   word_divides l m n      both words are monomials, and the first divides the second
 use Rattle.std.specs.Prelude.{ℕ, zero, suc, ◌+◌, ◌-◌, ◌*◌, ◌/◌, ◌%◌, ◌^◌, Bool, true, ◌&&◌, leb, ltb}
 use Rattle.algebra.specs.Monomials.{Letters, exponent}

@@ -1,13 +1,13 @@
 -- Keys of records, and what a slice has at the greatest key that is left of it.
 --
---   max_other, max_lower       of the greater of two numbers
---   key_here, key_beyond, key_within      the key of a record, and behind the last; only a record that is there has one
---   key-next                   the next record's key is lower
---   span_below                 the records from one on are below a word that is not below its key
---   span-done                  none is left where there is no key
---   HeadTaken                  what the head at a key takes from the records that are left, as sums and as monomials
---   head_equal                 what is left of F, and of L signed, is one term at the head's monomial and what is left of both behind it
---   head_taken                 the head at a key that none exceeds takes all that a falling slice has there
+--   max_other, max_lower               of the greater of two numbers
+--   key_here, key_beyond, key_within   the key of a record, and behind the last; only a record that is there has one
+--   key-next                           the next record's key is lower
+--   span_below                         the records from one on are below a word that is not below its key
+--   span-done                          none is left where there is no key
+--   HeadTaken                          what the head at a key takes from the records that are left, as sums and as monomials
+--   head_equal                         what is left of F, and of L signed, is one term at the head's monomial and what is left of both behind it
+--   head_taken                         the head at a key that none exceeds takes all that a falling slice has there
 use Prim.Native.Nat.{ℕ, zero, suc, ◌+◌, ◌-◌, ◌*◌, ◌%◌, ◌<◌, ◌≤◌, max}
 use mathlib.Core.Path.{◌≡◌, refl, sym, ◌∙◌, ap, subst}
 use mathlib.Core.Bool.{Bool, true, false}

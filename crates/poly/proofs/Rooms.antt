@@ -1,7 +1,7 @@
 -- Rooms that are filled with zero words.
 --
---   Zeros s₀ from s i       s is s₀ with zero words from `from` up to i
---   zeros-none, zeros_more, zeros_all      none yet; one more; all, up to the end
+--   Zeros s₀ from s i                   s is s₀ with zero words from `from` up to i
+--   zeros-none, zeros_more, zeros_all   none yet; one more; all, up to the end
 use Prim.Native.Nat.{ℕ, ◌+◌, ◌-◌, ◌<◌, ◌≤◌}
 use mathlib.Core.Path.{◌≡◌, refl, sym, ◌∙◌, ap}
 use mathlib.Core.List.{List, [], ◌∷◌, ◌++◌, append-nil}

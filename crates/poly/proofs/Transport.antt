@@ -1,10 +1,10 @@
 -- From words back to exponents: what was computed on words is what the definitions say of exponents.
 --
---   names               words as names of the monomials that fit
---   coded_named         a polynomial with its words is one with its names
---   coded_norm          the words of the normal form are the normal form of the words
---   coded_mul, coded_negated    of products and negatives
---   filled_poly         the polynomial in a room that was filled with the words of one
+--   names                      words as names of the monomials that fit
+--   coded_named                a polynomial with its words is one with its names
+--   coded_norm                 the words of the normal form are the normal form of the words
+--   coded_mul, coded_negated   of products and negatives
+--   filled_poly                the polynomial in a room that was filled with the words of one
 use Prim.Native.Nat.{ℕ, ◌-◌, ◌*◌, ◌<◌}
 use mathlib.Core.Path.{◌≡◌, refl, sym, ◌∙◌, ap}
 use mathlib.Core.Bool.{true}

@@ -1,7 +1,7 @@
 -- Largest exponents and degrees of a slice.
 --
---   measure_of s     the profile of a slice: term count, the four largest exponents, the largest total degree
---   maxima f        the monomial with the largest exponent of each letter in f: M(f, v) for every v
+--   measure_of s   the profile of a slice: term count, the four largest exponents, the largest total degree
+--   maxima f       the monomial with the largest exponent of each letter in f: M(f, v) for every v
 use Rattle.std.specs.Prelude.{ℕ, List, [], ◌∷◌}
 use Rattle.algebra.specs.Monomials.{exponent, degree, Letters}
 use Rattle.algebra.specs.Polynomials.{largest, Poly}

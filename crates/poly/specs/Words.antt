@@ -1,17 +1,17 @@
 -- A polynomial in memory: records of two words, the monomial word and then the coefficient word.
 --
---   records s           how many whole records a slice has
---   word_at s i          the monomial word of record i
---   coef_at s i          the coefficient word of record i
---   term_at l s i        the term that record i is, in the layout l
---   terms l s i n       the n terms from record i on
---   span s i n          the same n records with the words themselves for monomials: what the engine computes with
---   Monomial f          every word of a polynomial on words is a monomial
---   decoded_poly l f     a polynomial on words, with the exponents of each word in its place
---   poly_of l s          the polynomial that a slice is
---   words_of l f         the words of a polynomial
---   filled n ws         the words ws, then zero words up to a length of n
---   cleared s           as many zero words as s has
+--   records s          how many whole records a slice has
+--   word_at s i        the monomial word of record i
+--   coef_at s i        the coefficient word of record i
+--   term_at l s i      the term that record i is, in the layout l
+--   terms l s i n      the n terms from record i on
+--   span s i n         the same n records with the words themselves for monomials: what the engine computes with
+--   Monomial f         every word of a polynomial on words is a monomial
+--   decoded_poly l f   a polynomial on words, with the exponents of each word in its place
+--   poly_of l s        the polynomial that a slice is
+--   words_of l f       the words of a polynomial
+--   filled n ws        the words ws, then zero words up to a length of n
+--   cleared s          as many zero words as s has
 use Rattle.std.specs.Prelude.{ℕ, zero, suc, ◌+◌, ◌-◌, ◌*◌, ◌/◌, ◌≡◌, true, List, [], ◌∷◌, ◌++◌, length, get_or, replicate}
 use Rattle.algebra.specs.Monomials.{Letters, Numbers}
 use Rattle.algebra.specs.Polynomials.{Term, term, Poly, All}

@@ -1,9 +1,9 @@
 -- What the product does.
 --
---   product_reply f g h room      9 where a letter bursts, else 10 where the product h has more terms than the room, else 0
---   product_rules                 the refusals 1 to 8 of a product
+--   product_reply f g h room     9 where a letter bursts, else 10 where the product h has more terms than the room, else 0
+--   product_rules                the refusals 1 to 8 of a product
 --   multiplied                   what a product leaves where none of them is due
---   product_of p a b room work    the product of two polynomials, in its normal form
+--   product_of p a b room work   the product of two polynomials, in its normal form
 use Rattle.std.specs.Prelude.{ℕ, ◌*◌, min, List, [], ◌∷◌, ◌++◌, ltb, length}
 use Rattle.algebra.specs.Residues.{pick}
 use Rattle.algebra.specs.Monomials.{Letters}

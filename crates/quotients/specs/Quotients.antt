@@ -1,7 +1,7 @@
 -- What division with remainder and the divide test leave where none of the refusals 1 to 8 is due.
 --
---   division_walk, test_walk       the walk of each call, with the terms that its rooms can hold
---   divided, tested              what each call leaves
+--   division_walk, test_walk   the walk of each call, with the terms that its rooms can hold
+--   divided, tested            what each call leaves
 use Rattle.std.specs.Prelude.{ℕ, List, []}
 use Rattle.algebra.specs.Monomials.{Letters}
 use Rattle.algebra.specs.Walk.{Walked}

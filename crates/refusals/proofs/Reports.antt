@@ -1,15 +1,15 @@
 -- Laws of reports.
 --
---   chain            one link of an ordered fold of rules
---   passed_append, append_passed     of two lists of reports, one after the other
---   fold_passed      a fold that refuses nothing: every report of it passed, and the last
---   passed_fold      where every report passed, the fold answers the last
---   fold_tells       the first report that refuses is the one told
---   fold_refused     a fold that refuses answers the same, whatever stands last
---   fold_append      a fold over two lists, one after the other
---   Own n r          the report r has no number but 0 and n
---   Ascending i rs   the reports of rs have the numbers i, i + 1, .. of their own
---   fold_told        a fold of such reports tells the one with a given number just where it is due and all before it passed
+--   chain                          one link of an ordered fold of rules
+--   passed_append, append_passed   of two lists of reports, one after the other
+--   fold_passed                    a fold that refuses nothing: every report of it passed, and the last
+--   passed_fold                    where every report passed, the fold answers the last
+--   fold_tells                     the first report that refuses is the one told
+--   fold_refused                   a fold that refuses answers the same, whatever stands last
+--   fold_append                    a fold over two lists, one after the other
+--   Own n r                        the report r has no number but 0 and n
+--   Ascending i rs                 the reports of rs have the numbers i, i + 1, .. of their own
+--   fold_told                      a fold of such reports tells the one with a given number just where it is due and all before it passed
 use Prim.Native.Nat.{ℕ, suc, ◌+◌, ◌≤◌, ◌<◌}
 use mathlib.Core.Path.{◌≡◌, refl, sym, ◌∙◌, ap, subst}
 use mathlib.Core.Bool.{Bool, true, false}

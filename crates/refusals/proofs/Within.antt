@@ -1,10 +1,10 @@
 -- The numbers of the refusals 1 to 8.
 --
---   Within rs           no report of the list has a number over 8
---   within_append       of two lists, one after the other
---   within_first        then the first one due has none either
---   refusals_within     the rules 1 to 6 of any call
---   divisor_within, work_within     7 and 8
+--   Within rs                     no report of the list has a number over 8
+--   within_append                 of two lists, one after the other
+--   within_first                  then the first one due has none either
+--   refusals_within               the rules 1 to 6 of any call
+--   divisor_within, work_within   7 and 8
 use Prim.Native.Nat.{ℕ, ◌≤◌}
 use mathlib.Core.Path.{refl}
 use mathlib.Core.Bool.{Bool, true, false}

@@ -1,12 +1,12 @@
 -- Reports, as RULES Report has them: the number, an operand, a term index, and two term counts.
 --
---   none                     number 0 and nothing told: no refusal is due
---   refusal n operand i      the refusal n, of an operand, at the term i
---   done first second        reply 0, with the terms of the two outputs
---   or_else a b               the refusal a if it is due, else b
---   first_or rs otherwise     the first refusal due of an ordered list, else the report given
---   Passed rs                no refusal of the list is due
---   FirstDue rs r            r stands in the list and is due, and all before it passed
+--   none                    number 0 and nothing told: no refusal is due
+--   refusal n operand i     the refusal n, of an operand, at the term i
+--   done first second       reply 0, with the terms of the two outputs
+--   or_else a b             the refusal a if it is due, else b
+--   first_or rs otherwise   the first refusal due of an ordered list, else the report given
+--   Passed rs               no refusal of the list is due
+--   FirstDue rs r           r stands in the list and is due, and all before it passed
 use Rattle.std.specs.Prelude.{ℕ, ◌≡◌, List, [], ◌∷◌, ◌++◌, eqb}
 use Rattle.algebra.specs.Residues.{pick}
 use Rattle.refusals.specs.declared.report.Report.{Report}

@@ -1,17 +1,17 @@
 -- The refusals 1 to 8 of RULES Replies, each a rule that answers a report: `none` where it is not due.
 -- Of several that are due the lowest number wins, then the lowest operand, then the lowest term.
 --
---   modulus_rule p               1: p is not a prime in its range
---   odd_rule operand s           2: the slice s has odd length
---   long_rule most operand s     3: the slice is over its number of terms
---   guard_rule l operand s       4: a guard bit is set
---   order_rule operand s         5: a monomial is not below the one before
---   coef_rule p operand s        6: a coefficient is 0 or at least p
---   divisor_rule g               7: the divisor is zero
---   work_rule least work         8: the work array is too short
---   Lent                        an input or output slice: its operand, its words, and the most terms it may have
---   lent operand s most         such a slice
---   refusals l p ins outs       the rules 1 to 6 of a call with these inputs and outputs, in the order in which they win
+--   modulus_rule p             1: p is not a prime in its range
+--   odd_rule operand s         2: the slice s has odd length
+--   long_rule most operand s   3: the slice is over its number of terms
+--   guard_rule l operand s     4: a guard bit is set
+--   order_rule operand s       5: a monomial is not below the one before
+--   coef_rule p operand s      6: a coefficient is 0 or at least p
+--   divisor_rule g             7: the divisor is zero
+--   work_rule least work       8: the work array is too short
+--   Lent                       an input or output slice: its operand, its words, and the most terms it may have
+--   lent operand s most        such a slice
+--   refusals l p ins outs      the rules 1 to 6 of a call with these inputs and outputs, in the order in which they win
 use Rattle.std.specs.Prelude.{ℕ, ◌%◌, Bool, List, ◌∷◌, ◌++◌, map, eqb, leb, ltb, length}
 use Rattle.algebra.specs.Residues.{pick, first}
 use Rattle.moduli.specs.Moduli.{is_modulus}

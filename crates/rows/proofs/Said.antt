@@ -1,8 +1,8 @@
 -- From what a call left to what the definition of the call says that it leaves.
 --
---   trial_of o leaves     a call tried whose definition says that it leaves o, where a row says leaves
---   tried_of             what a call answered and left, compared with a row, is such a trial
---   tried-lent           the same, where the arrays were front parts of longer ones
+--   trial_of o leaves   a call tried whose definition says that it leaves o, where a row says leaves
+--   tried_of            what a call answered and left, compared with a row, is such a trial
+--   tried-lent          the same, where the arrays were front parts of longer ones
 use Prim.Native.Nat.{ℕ, ◌≤◌}
 use mathlib.Core.Path.{◌≡◌, ◌∙◌, ap}
 use mathlib.Core.Bool.{Bool}

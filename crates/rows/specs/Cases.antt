@@ -1,10 +1,10 @@
 -- The rows of the sheet as they are tried.
 --
---   product_row p a b n k ..      the row of a product with a room of n terms and k work words, lent as above, and what it has to leave
---   division_row, test_row         the same of a division and of a divide test
---   number_of row                 the number that the call of a row answers
---   trial row                    the same, and whether the row is right
---   modulus_trial p a says        the same of a check, which no row of the sheet's list is
+--   product_row p a b n k ..   the row of a product with a room of n terms and k work words, lent as above, and what it has to leave
+--   division_row, test_row     the same of a division and of a divide test
+--   number_of row              the number that the call of a row answers
+--   trial row                  the same, and whether the row is right
+--   modulus_trial p a says     the same of a check, which no row of the sheet's list is
 use Rattle.std.specs.Prelude.{ℕ, ◌*◌, List, []}
 use Rattle.field.specs.Answers.{balanced_of}
 use Rattle.refusals.specs.declared.report.Report.{Report}

@@ -1,13 +1,13 @@
 -- Laws of the profile and of the run: one for each way out of the functions that answer them.
 --
---   profiled, not_profiled         the profile beside a report that passed, and beside one that refused
---   starts, ends                   the first term with the power, and the first after it without
---   empty_part, part                the empty part at the front, and the part from one term up to another
---   run-refused                    the run of a slice that fails 2 to 5
---   run_missing                    the run of a power that no term has
---   run-found                      the run from the first term with the power to the first without
---   end_within                     the scan for the end answers at most the number of terms
---   run_within                     the run starts at most at its end, and ends within the slice
+--   profiled, not_profiled   the profile beside a report that passed, and beside one that refused
+--   starts, ends             the first term with the power, and the first after it without
+--   empty_part, part         the empty part at the front, and the part from one term up to another
+--   run-refused              the run of a slice that fails 2 to 5
+--   run_missing              the run of a power that no term has
+--   run-found                the run from the first term with the power to the first without
+--   end_within               the scan for the end answers at most the number of terms
+--   run_within               the run starts at most at its end, and ends within the slice
 use Prim.Native.Nat.{ℕ, ◌-◌, ◌*◌, ◌≤◌, ◌<◌}
 use mathlib.Core.Path.{◌≡◌, refl, sym, ◌∙◌, ap}
 use mathlib.Core.Bool.{Bool, true, false, ◌&&◌}

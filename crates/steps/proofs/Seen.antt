@@ -1,7 +1,7 @@
 -- From words to exponents: what is done on the words of a sorted list is what the walk does on its exponents.
 --
---   is_word                 a word is a monomial
---   remains-seen           what remains after a quotient term, on words
+--   is_word        a word is a monomial
+--   remains-seen   what remains after a quotient term, on words
 use Prim.Native.Nat.{ℕ, ◌<◌}
 use mathlib.Core.Path.{◌≡◌, sym, ◌∙◌, ap}
 use mathlib.Core.Bool.{true}

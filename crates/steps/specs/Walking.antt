@@ -1,10 +1,10 @@
 -- The walk on words, step by step: what the engine's own functions promise one another. No caller of a public function meets it.
 --
---   seen p h                 the terms of h, one for each monomial, the greatest first, words read as exponents
---   whole, walk_on            all of the walk, and the walk on from what remains
---   Walking                  a walk that has come to record i of the dividend, with n quotient and j remainder terms written
---   RowPut                   a quotient term was written, and its products wait in the tree
---   Stepped                  what a step promises
+--   seen p h         the terms of h, one for each monomial, the greatest first, words read as exponents
+--   whole, walk_on   all of the walk, and the walk on from what remains
+--   Walking          a walk that has come to record i of the dividend, with n quotient and j remainder terms written
+--   RowPut           a quotient term was written, and its products wait in the tree
+--   Stepped          what a step promises
 use Rattle.std.specs.Prelude.{ℕ, ◌+◌, ◌-◌, ◌*◌, ◌<◌, ◌≤◌, max, ◌≡◌, List, ◌++◌, length, set}
 use Rattle.algebra.specs.Monomials.{Letters, Numbers}
 use Rattle.algebra.specs.Orders.{Lex, Rising}

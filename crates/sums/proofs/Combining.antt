@@ -1,9 +1,9 @@
 -- Sum and difference, as one call.
 --
---   result                       the sum or the difference in its normal form
---   result_coded                 its words are the normal form of what was unmerged at the start
---   combine-ends                 a merge that was left with its reply ends as the call does
---   combine-refused, combine_goes_on     a call with a refusal due, and with none
+--   result                             the sum or the difference in its normal form
+--   result_coded                       its words are the normal form of what was unmerged at the start
+--   combine-ends                       a merge that was left with its reply ends as the call does
+--   combine-refused, combine_goes_on   a call with a refusal due, and with none
 use Prim.Native.Nat.{ℕ, ◌-◌, ◌<◌}
 use mathlib.Core.Path.{◌≡◌, refl, sym, ◌∙◌, ap}
 use mathlib.Core.Bool.{Bool, true, false}

@@ -1,10 +1,10 @@
 -- A tree that starts: its leaves are planted, and the records above them built.
 --
---   plant-none, plant_more         one leaf after the other
---   build-none, build_more, build-less         one record after the other, from the last to the root
---   starts                         a tree so built waits for every product
---   awaited_below                  where the columns fall, every product left is at most the root's
---   awaited-none                   nothing is left where the root is empty
+--   plant-none, plant_more               one leaf after the other
+--   build-none, build_more, build-less   one record after the other, from the last to the root
+--   starts                               a tree so built waits for every product
+--   awaited_below                        where the columns fall, every product left is at most the root's
+--   awaited-none                         nothing is left where the root is empty
 use Prim.Native.Nat.{ℕ, zero, suc, ◌+◌, ◌-◌, ◌*◌, ◌/◌, ◌^◌, ◌<◌, ◌≤◌}
 use mathlib.Core.Path.{◌≡◌, refl, sym, ◌∙◌, ap, subst}
 use mathlib.Core.List.{List, [], ◌++◌}

@@ -1,13 +1,13 @@
 -- The loop of the walk, over a tree that grows with the quotient: its rows are the front of the quotient room. How a tree grows is
 -- `Growing` of the crate tree.
 --
---   rows_words           the records of the front of a room
---   doubled              the rows that a tree grows to
---   Running              the loop, before each step
---   runs_first           the first tree
---   rows_asked           what growing asks
---   Grew, grows_on       the tree after it grew, where a quotient term may be written as far as the room goes
---   runs_on, runs_ended, runs_stopped     after a step: the loop goes on, or ends; its work was as long as v
+--   rows_words                          the records of the front of a room
+--   doubled                             the rows that a tree grows to
+--   Running                             the loop, before each step
+--   runs_first                          the first tree
+--   rows_asked                          what growing asks
+--   Grew, grows_on                      the tree after it grew, where a quotient term may be written as far as the room goes
+--   runs_on, runs_ended, runs_stopped   after a step: the loop goes on, or ends; its work was as long as v
 use Prim.Native.Nat.{ℕ, zero, suc, ◌+◌, ◌-◌, ◌*◌, ◌/◌, ◌^◌, ◌<◌, ◌≤◌, max, min}
 use mathlib.Core.Path.{◌≡◌, refl, sym, ◌∙◌, ap, subst}
 use mathlib.Core.List.{List, [], ◌∷◌, ◌++◌}

@@ -9,8 +9,8 @@
 //! nothing is changed. How large things may be is told in [`limit`], and every rule in
 //! `docs/RULES.md`.
 //!
-//! The engine is a static library: `rt staticlib garantepo` makes `target/staticlib/libgarantepo.a`,
-//! which `build.rs` links. A copy of it elsewhere is named by the variable `GARANTEPO_LIB`, a folder.
+//! The engine is a static library: `rt lib` in `crates/garantepo` makes its `out/libgarantepo.a`, which
+//! `build.rs` links. A copy of it elsewhere is named by the variable `GARANTEPO_LIB`, a folder.
 //!
 //! # Why these calls are safe
 //!

@@ -52,11 +52,10 @@ pub loop-v-smaller : goal.loop-v-smaller
 loop-v-smaller c = omega (arith, c.loop-v-test.true)
 
 pub loop-v-preserved : goal.loop-v-preserved
-loop-v-preserved c =
-    (
-      omega (arith, c.loop-v-test.true),
-      sym (first_up (tried (goal.at.loop-v-preserved c).At-loop-v) c.loop-v.v 4 c.loop-v-test.true (sym (test (goal.at.loop-v-preserved c).In-loop-v) ∙ le-ltb 32767 _ c.if-a-v-gt-LARGEST.false)) ∙ c.loop-v.invariant.1,
-    )
+loop-v-preserved c = (
+  omega (arith, c.loop-v-test.true),
+  sym (first_up (tried (goal.at.loop-v-preserved c).At-loop-v) c.loop-v.v 4 c.loop-v-test.true (sym (test (goal.at.loop-v-preserved c).In-loop-v) ∙ le-ltb 32767 _ c.if-a-v-gt-LARGEST.false)) ∙ c.loop-v.invariant.1,
+)
 
 pub returns : goal.returns
 returns c =

@@ -33,10 +33,10 @@ pub fill-requires : goal.fill-requires
 fill-requires c =
     let few : records c.args.cols.now < 2 ^ 32 = omega (arith, c.requires.p_nonzero.3) in
     let fewer : records c.args.rows.now < 2 ^ 32 = omega (arith, c.requires.p_nonzero.2, c.requires.p_nonzero.3) in record {
-  p_nonzero = (c.requires.p_nonzero.0, c.requires.p_nonzero.1, some (goal.at.fill-requires c).Else-rows-eq0);
-  valid = (c.requires.rows_in_bounds.2, sides _ _ _ c.requires.rows_in_bounds.1 c.requires.rows_in_bounds.2 fewer few);
-  live = c.start.ensures.live;
-}
+      p_nonzero = (c.requires.p_nonzero.0, c.requires.p_nonzero.1, some (goal.at.fill-requires c).Else-rows-eq0);
+      valid = (c.requires.rows_in_bounds.2, sides _ _ _ c.requires.rows_in_bounds.1 c.requires.rows_in_bounds.2 fewer few);
+      live = c.start.ensures.live;
+    }
 
 pub returns : goal.returns
 returns c =

@@ -1,5 +1,4 @@
 -- `expansion::fill` meets its contract. The loop's invariant: n records are written, and the rest waits in the tree.
-use Prim.Native.Nat.{◌-◌}
 use mathlib.Core.Path.{◌≡◌}
 use lib.ListN.{length}
 use Rattle.poly.specs.Words.{word_at}

@@ -6,7 +6,7 @@ use native.Mathlib.Omega.{arith}
 use Rattle.algebra.specs.Residues.{first}
 use Rattle.algebra.proofs.Scan.{first_down}
 use Rattle.poly.specs.Words.{records}
-use Rattle.faults.specs.Faults.{guard_at, order_at, bad_coef_at, faults_of}
+use Rattle.faults.specs.Faults.{faults_of}
 use borrow.Author.Rules.{rules}
 use Rattle.faults.proofs.find_faults.Goals as goal
 

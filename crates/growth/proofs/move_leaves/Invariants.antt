@@ -1,5 +1,5 @@
 -- `growth::move_leaves` meets its contract. The loop's invariant: the leaves from `row` on have moved.
-use Prim.Native.Nat.{◌≤◌, ◌-◌}
+use Prim.Native.Nat.{◌≤◌}
 use Rattle.growth.specs.Growth.{Moved}
 use Rattle.growth.proofs.move_leaves.Given as goal
 

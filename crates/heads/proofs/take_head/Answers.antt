@@ -24,12 +24,11 @@ head c =
     c.head_at-h.ensures
 
 pub add_mod-requires : goal.add_mod-requires
-add_mod-requires c =
-    (
-      c.requires.p_nonzero.1,
-      (head c).coefs c.args.p c.requires.p_nonzero.0 (λ j h. (c.requires.valid.0.coefs j h).1),
-      omega (arith, c.neg_mod-minus.ensures, mod-lt (c.args.p - c.take_at.result) c.requires.p_nonzero.0),
-    )
+add_mod-requires c = (
+  c.requires.p_nonzero.1,
+  (head c).coefs c.args.p c.requires.p_nonzero.0 (λ j h. (c.requires.valid.0.coefs j h).1),
+  omega (arith, c.neg_mod-minus.ensures, mod-lt (c.args.p - c.take_at.result) c.requires.p_nonzero.0),
+)
 
 pub returns : goal.returns
 returns c =

@@ -17,19 +17,17 @@ pub largest_word-requires-then-test : goal.largest_word-requires-then-test
 largest_word-requires-then-test c = maxima-fits _ _ c.requires.valid.0
 
 pub returns-then-test : goal.returns-then-test
-returns-then-test c =
-    (
-      prepared _ _ _ _ c.requires.prime c.requires.valid c.inverse_mod.ensures c.largest_word.ensures (λ e. c.largest_word-then-test.ensures),
-      refl,
-      refl,
-      refl,
-    )
+returns-then-test c = (
+  prepared _ _ _ _ c.requires.prime c.requires.valid c.inverse_mod.ensures c.largest_word.ensures (λ e. c.largest_word-then-test.ensures),
+  refl,
+  refl,
+  refl,
+)
 
 pub returns-else-test : goal.returns-else-test
-returns-else-test c =
-    (
-      prepared _ _ _ _ c.requires.prime c.requires.valid c.inverse_mod.ensures c.largest_word.ensures (λ e. absurd (never e c.if-test.false)),
-      refl,
-      refl,
-      refl,
-    )
+returns-else-test c = (
+  prepared _ _ _ _ c.requires.prime c.requires.valid c.inverse_mod.ensures c.largest_word.ensures (λ e. absurd (never e c.if-test.false)),
+  refl,
+  refl,
+  refl,
+)

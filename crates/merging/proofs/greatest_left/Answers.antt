@@ -26,12 +26,11 @@ pub overflow_sub-result : goal.overflow_sub-result
 overflow_sub-result c = some (goal.at.overflow_sub-result c).Then-x-y
 
 pub add_mod-requires : goal.add_mod-requires
-add_mod-requires c =
-    (
-      c.requires.p_nonzero.1,
-      front_small _ c.args.a.now c.args.i c.requires.valid.0 _ c.front_at-x.ensures c.requires.p_nonzero.0,
-      subst (λ n. n < c.args.p) (sym c.signed_coef-d.ensures) (signed_small _ c.args.minus _ (signed_coef-d-requires (goal.at.add_mod-requires c).After-front_at-y)),
-    )
+add_mod-requires c = (
+  c.requires.p_nonzero.1,
+  front_small _ c.args.a.now c.args.i c.requires.valid.0 _ c.front_at-x.ensures c.requires.p_nonzero.0,
+  subst (λ n. n < c.args.p) (sym c.signed_coef-d.ensures) (signed_small _ c.args.minus _ (signed_coef-d-requires (goal.at.add_mod-requires c).After-front_at-y)),
+)
 
 pub returns-then-x-y : goal.returns-then-x-y
 returns-then-x-y c =

@@ -1,4 +1,3 @@
-use Prim.Native.Nat.{◌-◌}
 use native.Mathlib.Omega.{arith}
 use borrow.Author.Rules.{rules}
 use Rattle.merging.proofs.Merging.{merge-starts, merge_skips, merge_writes, merge_full, merge-done}
@@ -10,9 +9,9 @@ loop-i-init c = merge-starts _ _ _ _ _ c.requires.p_nonzero.0
 pub greatest_left-next-requires : goal.greatest_left-next-requires
 greatest_left-next-requires c =
     let m = c.loop-i.invariant in record {
-  p_nonzero = (c.requires.p_nonzero.0, c.requires.p_nonzero.1, m.first_within, m.second_within, c.loop-i-test.true);
-  valid = c.requires.valid;
-}
+      p_nonzero = (c.requires.p_nonzero.0, c.requires.p_nonzero.1, m.first_within, m.second_within, c.loop-i-test.true);
+      valid = c.requires.valid;
+    }
 
 pub overflow_add-result : goal.overflow_add-result
 overflow_add-result c = omega (arith, c.loop-i.invariant.filling.within)

@@ -1,7 +1,6 @@
 -- `monomial::divides` meets its contract: both words are tested at once, then what is left of the guard bits after the difference.
 use mathlib.Core.Path.{◌≡◌, ◌∙◌, sym}
 use mathlib.Core.Bool.{true}
-use borrow.Author.Tests.{not-true, not-false}
 use Rattle.monomial.specs.Layout.{base, is_monomial}
 use Rattle.monomial.proofs.Masks.{both_monomials, lent_covers, mask_divides, divides-none}
 use Rattle.monomial.proofs.divides.Goals as goal

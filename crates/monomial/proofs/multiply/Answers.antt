@@ -2,7 +2,6 @@
 use Prim.Native.Nat.{◌+◌}
 use mathlib.Core.Path.{◌≡◌, ◌∙◌, sym, ap}
 use mathlib.Core.Bool.{true, ◌&&◌}
-use borrow.Author.Tests.{not-true, not-false}
 use Rattle.algebra.specs.Residues.{pick}
 use Rattle.monomial.specs.Layout.{base, is_monomial}
 use Rattle.field.specs.Answers.{value, no_value}

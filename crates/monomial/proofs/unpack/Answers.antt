@@ -1,6 +1,5 @@
 -- `monomial::unpack` meets its contract: the four calls of `exponent` give the four fields.
 use mathlib.Core.Path.{◌∙◌, sym}
-use borrow.Author.Tests.{not-true, not-false}
 use Rattle.monomial.proofs.unpack.Goals as goal
 
 pub returns-then-not-is_monomial : goal.returns-then-not-is_monomial

@@ -28,11 +28,10 @@ overflow_sub-word c =
     omega (arith, quotient-word (at_head (c.requires.k_nonzero, (c.requires.ready, c.requires.walking)) c.take_head-h.ensures) c.if-h-eq0.false (lead-divides (goal.at.overflow_sub-word c).Then-divides))
 
 pub judge_quotient-requires : goal.judge_quotient-requires
-judge_quotient-requires c =
-    (
-      (quotient-word (at_head (c.requires.k_nonzero, (c.requires.ready, c.requires.walking)) c.take_head-h.ensures) c.if-h-eq0.false (lead-divides (goal.at.judge_quotient-requires c).Then-divides)).0,
-      divisor_monomial _ _ _ _ c.requires.ready,
-    )
+judge_quotient-requires c = (
+  (quotient-word (at_head (c.requires.k_nonzero, (c.requires.ready, c.requires.walking)) c.take_head-h.ensures) c.if-h-eq0.false (lead-divides (goal.at.judge_quotient-requires c).Then-divides)).0,
+  divisor_monomial _ _ _ _ c.requires.ready,
+)
 
 pub mul_mod-requires : goal.mul_mod-requires
 mul_mod-requires c =

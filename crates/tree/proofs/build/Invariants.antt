@@ -1,5 +1,5 @@
 -- `tree::build` meets its contract. The loop's invariant: the records from `at` on hold.
-use Prim.Native.Nat.{◌≤◌, ◌-◌}
+use Prim.Native.Nat.{◌≤◌}
 use Rattle.tree.specs.Tree.{Built}
 use Rattle.tree.proofs.build.Given as goal
 

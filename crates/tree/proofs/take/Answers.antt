@@ -84,9 +84,9 @@ overflow_add-count c = omega (arith, (in-hand (goal.at.overflow_add-count c).In-
 pub climb-at-requires : goal.climb-at-requires
 climb-at-requires c =
     let h = in-hand (goal.at.climb-at-requires c).In-loop-work in record {
-  count_le_leaf = (omega arith, omega (arith, h.row), c.loop-work.invariant.long, omega (arith, c.requires.p_nonzero.3));
-  settled = h.settled;
-}
+      count_le_leaf = (omega arith, omega (arith, h.row), c.loop-work.invariant.long, omega (arith, c.requires.p_nonzero.3));
+      settled = h.settled;
+    }
 
 pub loop-work-smaller : goal.loop-work-smaller
 loop-work-smaller c =

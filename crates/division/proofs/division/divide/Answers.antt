@@ -1,7 +1,6 @@
 -- `division::division::divide` meets its contract.
 use mathlib.Core.Path.{◌≡◌, ◌∙◌, ap}
 use mathlib.Core.List.{[], ◌∷◌}
-use borrow.Author.Rules.{rules}
 use Rattle.refusals.specs.Reports.{none, first_or}
 use Rattle.refusals.specs.Rules.{lent, input_terms, room_terms}
 use Rattle.dues.specs.Dues.{with_room}
@@ -41,9 +40,9 @@ divide_good-requires c =
     let a = c.args in
     let W = (rules_walkable a.p a.f.now a.g.now a.q.now a.work.now (lent 4 a.r.now room_terms ∷ []) (told (goal.at.divide_good-requires c).After-first-due) c.if-due-ne0.false).0 in
     let G = W.good in record {
-  prime = (G.prime, G.within, G.first, G.second, W.some, G.second_short);
-  q_bound = (W.room_short, W.long);
-}
+      prime = (G.prime, G.within, G.first, G.second, W.some, G.second_short);
+      q_bound = (W.room_short, W.long);
+    }
 
 pub returns : goal.returns
 unfolding divide_of

@@ -1,7 +1,6 @@
 -- `division::test::divides` meets its contract.
 use mathlib.Core.Path.{◌≡◌, ◌∙◌, ap}
 use mathlib.Core.List.{[], ◌∷◌}
-use borrow.Author.Rules.{rules}
 use Rattle.refusals.specs.Reports.{none, first_or}
 use Rattle.refusals.specs.Rules.{lent, input_terms}
 use Rattle.dues.specs.Dues.{with_room}
@@ -37,9 +36,9 @@ test_good-requires c =
     let a = c.args in
     let W = (rules_walkable a.p a.f.now a.g.now a.q.now a.work.now [] (told (goal.at.test_good-requires c).After-first-due) c.if-due-ne0.false).0 in
     let G = W.good in record {
-  prime = (G.prime, G.within, G.first, G.second, W.some, G.second_short);
-  q_bound = (W.room_short, W.long);
-}
+      prime = (G.prime, G.within, G.first, G.second, W.some, G.second_short);
+      q_bound = (W.room_short, W.long);
+    }
 
 pub returns : goal.returns
 unfolding test_of

@@ -5,7 +5,6 @@ use borrow.Author.Rules.{rules}
 use Rattle.algebra.specs.Residues.{first}
 use Rattle.algebra.proofs.Scan.{first-stop, first_up}
 use Rattle.poly.specs.Words.{records}
-use Rattle.services.specs.Services.{power_is}
 use Rattle.services.proofs.run.scan_power.Goals as goal
 
 pub loop-i-init : goal.loop-i-init
