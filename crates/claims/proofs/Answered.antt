@@ -1,6 +1,6 @@
 -- Every call on any arrays ends with one numbered answer (the search for a run: with a part).
 --
---   NAME-answered     every argument is allowed, and two outcomes that the contract allows for it are the same. That a call ends is part of
+--   NAME_answered     every argument is allowed, and two outcomes that the contract allows for it are the same. That a call ends is part of
 --                     what Rattle checks of every function.
 use mathlib.Core.Path.{◌≡◌}
 use mathlib.Core.List.{[]}

@@ -1,12 +1,12 @@
 -- Every public function has one outcome, and each that has no `requires` takes anything: the contract is the one that the check
 -- generates from the source, so that a theorem here fails when a contract says less.
 --
---   NAME-asks-nothing    every argument is allowed
+--   NAME-asks_nothing    every argument is allowed
 --   NAME-determined      two outcomes that the contract allows for the same arguments are equal
 use mathlib.Core.Path.{◌≡◌, sym, ◌∙◌}
 use Rattle.compared.proofs.words.lent_words.Reads as lent-words
 use Rattle.compared.proofs.words.both.Reads as both
-use Rattle.compared.proofs.words.same_report.Reads as same_report_lem
+use Rattle.compared.proofs.words.same_report.Reads as same-report
 use Rattle.compared.proofs.words.rest_of.Reads as rest_of
 use Rattle.compared.proofs.words.holds.Reads as holds
 use Rattle.compared.proofs.outcomes.outcome_said.Reads as outcome-said
@@ -23,10 +23,10 @@ both-asks_nothing κs a = tt
 pub both-determined : (κs : _) (a : _) (r r' : _) (s s' : _) → both.Post κs a r s → both.Post κs a r' s' → r ≡ r'
 both-determined κs a r r' s s' p q = p ∙ sym q
 
-pub same_report-asks_nothing : (κs : _) (a : _) → same_report_lem.Pre κs a
+pub same_report-asks_nothing : (κs : _) (a : _) → same-report.Pre κs a
 same_report-asks_nothing κs a = tt
 
-pub same_report-determined : (κs : _) (a : _) (r r' : _) (s s' : _) → same_report_lem.Post κs a r s → same_report_lem.Post κs a r' s' → r ≡ r'
+pub same_report-determined : (κs : _) (a : _) (r r' : _) (s s' : _) → same-report.Post κs a r s → same-report.Post κs a r' s' → r ≡ r'
 same_report-determined κs a r r' s s' p q = p ∙ sym q
 
 pub rest_of-asks_nothing : (κs : _) (a : _) → rest_of.Pre κs a

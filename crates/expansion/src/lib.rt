@@ -41,8 +41,8 @@ pub fn burst_at(f: &[u64], g: &[u64]) -> usize
 
 // Writes the product into the room, and answers the number of its terms: one more than the room holds where there are more.
 pub fn expand(p: u64, rows: &[u64], cols: &[u64], room: &mut [u64], work: &mut [u64]) -> usize
-    requires p_nonzero { (0 < p) × (p ≤ limit) × (records rows.now ≤ records cols.now) × (records cols.now ≤ input_terms) }
-    requires rows_in_bounds { (4 * records rows.now ≤ length work.old) × (Valid p rows.now) × (Valid p cols.now) }
+    requires within { (0 < p) × (p ≤ limit) × (records rows.now ≤ records cols.now) × (records cols.now ≤ input_terms) }
+    requires lent { (4 * records rows.now ≤ length work.old) × (Valid p rows.now) × (Valid p cols.now) }
     ensures { Filled p (mul (span rows.now 0 (records rows.now)) (span cols.now 0 (records cols.now)))
         room.old room.new result }
 {
@@ -56,7 +56,7 @@ pub fn expand(p: u64, rows: &[u64], cols: &[u64], room: &mut [u64], work: &mut [
 // Writes what waits in the tree into the room, one monomial a turn, and answers the number of terms: one more than the room holds
 // where there are more.
 fn fill(p: u64, rows: &[u64], cols: &[u64], room: &mut [u64], work: &mut [u64]) -> usize
-    requires p_nonzero { (0 < p) × (p ≤ limit) × (0 < records rows.now) }
+    requires within { (0 < p) × (p ≤ limit) × (0 < records rows.now) }
     requires valid { (Valid p cols.now) × (Sides rows.now cols.now p) }
     requires live { Live rows.now cols.now work.old }
     ensures { Filled p (awaited rows.now cols.now work.old 0 (records rows.now))

@@ -1,7 +1,7 @@
 -- Each operation of RULES Field and Balanced asks nothing of its caller, and no contract leaves a second outcome: the contract is the one that the check generates from the source, so
 -- that a theorem here fails when a contract says less.
 --
---   NAME-asks-nothing    every argument is allowed
+--   NAME-asks_nothing    every argument is allowed
 --   NAME-determined      two results that the contract allows for the same arguments are equal
 use mathlib.Core.Path.{◌≡◌, sym, ◌∙◌}
 use Rattle.field.proofs.sum.Reads as sum

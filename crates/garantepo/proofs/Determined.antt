@@ -1,7 +1,7 @@
 -- Every exported function takes anything and has one outcome: the contract is the one that the check generates from the source, so that
 -- a theorem here fails when a contract says less.
 --
---   NAME-asks-nothing    every argument is allowed
+--   NAME-asks_nothing    every argument is allowed
 --   NAME-determined      two outcomes that the contract allows for the same arguments are equal: the answer, and each word of the
 --                        rooms and of the work array
 use mathlib.Core.Path.{◌≡◌, sym, ◌∙◌}
@@ -44,52 +44,52 @@ garantepo_run-determined κs a r r' s s' p q = p ∙ sym q
 pub garantepo_sum-asks_nothing : (κs : _) (a : _) → garantepo-sum.Pre κs a
 garantepo_sum-asks_nothing κs a = tt
 
-pub garantepo-sum-determined :
+pub garantepo_sum-determined :
     (κs : _) (a : _) (r r' : _) (s s' : _) →
     garantepo-sum.Post κs a r s →
     garantepo-sum.Post κs a r' s' →
     outcome r s.1.1.1.0.now [] [] ≡ outcome r' s'.1.1.1.0.now [] []
-garantepo-sum-determined κs a r r' s s' p q = p ∙ sym q
+garantepo_sum-determined κs a r r' s s' p q = p ∙ sym q
 
 pub garantepo_difference-asks_nothing : (κs : _) (a : _) → garantepo-difference.Pre κs a
 garantepo_difference-asks_nothing κs a = tt
 
-pub garantepo-difference-determined :
+pub garantepo_difference-determined :
     (κs : _) (a : _) (r r' : _) (s s' : _) →
     garantepo-difference.Post κs a r s →
     garantepo-difference.Post κs a r' s' →
     outcome r s.1.1.1.0.now [] [] ≡ outcome r' s'.1.1.1.0.now [] []
-garantepo-difference-determined κs a r r' s s' p q = p ∙ sym q
+garantepo_difference-determined κs a r r' s s' p q = p ∙ sym q
 
 pub garantepo_product-asks_nothing : (κs : _) (a : _) → garantepo-product.Pre κs a
 garantepo_product-asks_nothing κs a = tt
 
-pub garantepo-product-determined :
+pub garantepo_product-determined :
     (κs : _) (a : _) (r r' : _) (s s' : _) →
     garantepo-product.Post κs a r s →
     garantepo-product.Post κs a r' s' →
     outcome r s.1.1.1.0.now [] s.1.1.1.1.0.now ≡ outcome r' s'.1.1.1.0.now [] s'.1.1.1.1.0.now
-garantepo-product-determined κs a r r' s s' p q = p ∙ sym q
+garantepo_product-determined κs a r r' s s' p q = p ∙ sym q
 
 pub garantepo_divide-asks_nothing : (κs : _) (a : _) → garantepo-divide.Pre κs a
 garantepo_divide-asks_nothing κs a = tt
 
-pub garantepo-divide-determined :
+pub garantepo_divide-determined :
     (κs : _) (a : _) (r r' : _) (s s' : _) →
     garantepo-divide.Post κs a r s →
     garantepo-divide.Post κs a r' s' →
     outcome r s.1.1.1.0.now s.1.1.1.1.0.now s.1.1.1.1.1.0.now ≡ outcome r' s'.1.1.1.0.now s'.1.1.1.1.0.now s'.1.1.1.1.1.0.now
-garantepo-divide-determined κs a r r' s s' p q = p ∙ sym q
+garantepo_divide-determined κs a r r' s s' p q = p ∙ sym q
 
 pub garantepo_divides-asks_nothing : (κs : _) (a : _) → garantepo-divides.Pre κs a
 garantepo_divides-asks_nothing κs a = tt
 
-pub garantepo-divides-determined :
+pub garantepo_divides-determined :
     (κs : _) (a : _) (r r' : _) (s s' : _) →
     garantepo-divides.Post κs a r s →
     garantepo-divides.Post κs a r' s' →
     outcome r s.1.1.1.0.now [] s.1.1.1.1.0.now ≡ outcome r' s'.1.1.1.0.now [] s'.1.1.1.1.0.now
-garantepo-divides-determined κs a r r' s s' p q = p ∙ sym q
+garantepo_divides-determined κs a r r' s s' p q = p ∙ sym q
 
 pub garantepo_field_sum-asks_nothing : (κs : _) (a : _) → garantepo-field-sum.Pre κs a
 garantepo_field_sum-asks_nothing κs a = tt

@@ -24,7 +24,7 @@ pub fn take_head(
     i: usize,
     k: u64,
 ) -> Head
-    requires p_nonzero { (0 < p) × (p ≤ limit) × (0 < k) × (k ≡ max (key_at f.now i) (word_at work.old 1)) × (i ≤ records f.now) }
+    requires within { (0 < p) × (p ≤ limit) × (0 < k) × (k ≡ max (key_at f.now i) (word_at work.old 1)) × (i ≤ records f.now) }
     requires valid { (Valid p f.now) × (Valid p g.now) × (Sides q.now g.now p) }
     requires live { (Live q.now g.now work.old) × (records q.now ≡ 0 → word_at work.old 1 ≡ 0) }
     ensures { Headed p f.now g.now q.now work.old i k work.new result.next result.coef }
@@ -37,7 +37,7 @@ pub fn take_head(
 
 // Takes all that waits at key k; in an empty quotient room nothing ever waits.
 fn take_at(p: u64, q: &[u64], g: &[u64], work: &mut [u64], k: u64) -> u64
-    requires p_nonzero { (0 < p) × (p ≤ limit) × (0 < k) × (Sides q.now g.now p) }
+    requires within { (0 < p) × (p ≤ limit) × (0 < k) × (Sides q.now g.now p) }
     requires live { (Live q.now g.now work.old) × (records q.now ≡ 0 → word_at work.old 1 ≡ 0) }
     ensures { (Taken p q.now g.now k work.old work.new result) × (records q.now ≡ 0 → word_at work.new 1 ≡ 0) }
 {

@@ -35,7 +35,7 @@ pub fn prepare(
     quotients: usize,
     remainders: usize,
 ) -> Plan
-    requires prime { (Prime p) × (p ≤ limit) × (0 < records g.now) × (records g.now < 2 ^ 32) }
+    requires within { (Prime p) × (p ≤ limit) × (0 < records g.now) × (records g.now < 2 ^ 32) }
     requires valid { (Valid p f.now) × (Valid p g.now) }
     ensures { (Ready p f.now g.now result) × (result.test ≡ test) × (result.quotients ≡ quotients) × (result.remainders ≡ remainders) }
 {

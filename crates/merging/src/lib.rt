@@ -32,7 +32,7 @@ pub struct Front {
 // Merges two inputs that were found good into the room, and answers the number of terms: one more than the room holds where there
 // are more.
 pub fn merge(p: u64, a: &[u64], b: &[u64], minus: bool, room: &mut [u64]) -> usize
-    requires p_nonzero { (0 < p) × (p ≤ limit) × (length room.old ≡ 2 * records room.old) }
+    requires within { (0 < p) × (p ≤ limit) × (length room.old ≡ 2 * records room.old) }
     requires valid { (Valid p a.now) × (Valid p b.now) }
     ensures { Filled p (unmerged p minus a.now b.now 0 0) room.old room.new result }
 {
@@ -58,7 +58,7 @@ pub fn merge(p: u64, a: &[u64], b: &[u64], minus: bool, room: &mut [u64]) -> usi
 
 // The greatest monomial that is left of a from record i on and of b from record j on.
 fn greatest_left(p: u64, a: &[u64], b: &[u64], minus: bool, i: usize, j: usize) -> Lead
-    requires p_nonzero { (0 < p) × (p ≤ limit) × (i ≤ records a.now) × (j ≤ records b.now) × (i + j < records a.now + records b.now) }
+    requires within { (0 < p) × (p ≤ limit) × (i ≤ records a.now) × (j ≤ records b.now) × (i + j < records a.now + records b.now) }
     requires valid { (Valid p a.now) × (Valid p b.now) }
     ensures { Greatest p minus a.now b.now i j result }
 {

@@ -1,6 +1,6 @@
 -- Every public call takes any words and has one answer.
 --
---   CALL-asks-nothing   the call's contract requires nothing
+--   CALL-asks_nothing   the call's contract requires nothing
 --   CALL-determined     two answers that the call's contract allows are the same
 use mathlib.Core.Path.{◌≡◌, refl, sym, ◌∙◌, ap}
 use native.Mathlib.Omega.{arith}

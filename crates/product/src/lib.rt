@@ -41,8 +41,8 @@ pub fn product(p: u64, a: &[u64], b: &[u64], room: &mut [u64], work: &mut [u64])
 
 // The product where none of 1 to 8 is due and the first factor is not the longer.
 fn multiply(p: u64, rows: &[u64], cols: &[u64], room: &mut [u64], work: &mut [u64]) -> Report
-    requires p_nonzero { (0 < p) × (p ≤ limit) × (records rows.now ≤ records cols.now) × (records cols.now ≤ input_terms) }
-    requires rows_in_bounds { (4 * records rows.now ≤ length work.old) × (Valid p rows.now) × (Valid p cols.now) }
+    requires within { (0 < p) × (p ≤ limit) × (records rows.now ≤ records cols.now) × (records cols.now ≤ input_terms) }
+    requires lent { (4 * records rows.now ≤ length work.old) × (Valid p rows.now) × (Valid p cols.now) }
     ensures { outcome result room.new [] work.new
         ≡ multiplied p rows.now cols.now room.old work.old }
 {

@@ -23,8 +23,8 @@ pub fn divide_good(
     r: &mut [u64],
     work: &mut [u64],
 ) -> Report
-    requires prime { (Prime p) × (p ≤ limit) × (Valid p f.now) × (Valid p g.now) × (0 < records g.now) × (records g.now ≤ input_terms) }
-    requires q_bound { (records q.old ≤ input_terms) × (4 * records q.old ≤ length work.old) }
+    requires inputs { (Prime p) × (p ≤ limit) × (Valid p f.now) × (Valid p g.now) × (0 < records g.now) × (records g.now ≤ input_terms) }
+    requires rooms { (records q.old ≤ input_terms) × (4 * records q.old ≤ length work.old) }
     ensures { outcome result q.new r.new work.new
         ≡ divided p f.now g.now q.old r.old work.old }
 {

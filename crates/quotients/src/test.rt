@@ -16,8 +16,8 @@ use walk::run;
 
 // The divide test where none of 1 to 8 is due. No remainder term is ever written.
 pub fn test_good(p: u64, f: &[u64], g: &[u64], q: &mut [u64], work: &mut [u64]) -> Report
-    requires prime { (Prime p) × (p ≤ limit) × (Valid p f.now) × (Valid p g.now) × (0 < records g.now) × (records g.now ≤ input_terms) }
-    requires q_bound { (records q.old ≤ input_terms) × (4 * records q.old ≤ length work.old) }
+    requires inputs { (Prime p) × (p ≤ limit) × (Valid p f.now) × (Valid p g.now) × (0 < records g.now) × (records g.now ≤ input_terms) }
+    requires rooms { (records q.old ≤ input_terms) × (4 * records q.old ≤ length work.old) }
     ensures { outcome result q.new [] work.new
         ≡ tested p f.now g.now q.old work.old }
 {

@@ -2,7 +2,7 @@
 --
 --   trial_of o leaves   a call tried whose definition says that it leaves o, where a row says leaves
 --   tried_of            what a call answered and left, compared with a row, is such a trial
---   tried-lent          the same, where the arrays were front parts of longer ones
+--   tried_lent          the same, where the arrays were front parts of longer ones
 use Prim.Native.Nat.{ℕ, ◌≤◌}
 use mathlib.Core.Path.{◌≡◌, ◌∙◌, ap}
 use mathlib.Core.Bool.{Bool}
@@ -38,7 +38,7 @@ module _ (says : Report) (ws vs : List ℕ) where
       λ i. record { number = (e i).report.number; right = right i }
 
   -- a, b and c are the arrays, of z words each
-  pub tried-lent :
+  pub tried_lent :
       (call : List ℕ → List ℕ → List ℕ → Outcome) (n m k z : ℕ) (a b c : List ℕ) (t : Tried) →
       n ≤ z →
       m ≤ z →
@@ -48,7 +48,7 @@ module _ (says : Report) (ws vs : List ℕ) where
       AsLent z c →
       t ≡ trial_of (call (take n a) (take m b) (take k c)) (said_of (take n a) (take m b) (take k c)) →
       t ≡ trial_of (call (all_dirt n) (all_dirt m) (all_dirt k)) (said says ws vs n m k)
-  tried-lent call n m k z a b c t hn hm hk la lb lc h =
+  tried_lent call n m k z a b c t hn hm hk la lb lc h =
       let first = part-lent n z a hn la in
       let second = part-lent m z b hm lb in
       let work = part-lent k z c hk lc in

@@ -5,7 +5,7 @@
 --   empty_part, part         the empty part at the front, and the part from one term up to another
 --   run-refused              the run of a slice that fails 2 to 5
 --   run_missing              the run of a power that no term has
---   run-found                the run from the first term with the power to the first without
+--   run_found                the run from the first term with the power to the first without
 --   end_within               the scan for the end answers at most the number of terms
 --   run_within               the run starts at most at its end, and ends within the slice
 use Prim.Native.Nat.{ℕ, ◌-◌, ◌*◌, ◌≤◌, ◌<◌}
@@ -77,14 +77,14 @@ module _ (s : List ℕ) (power : ℕ) where
         let k : records s ≤ starts s power = omega (arith, start-at) in
         λ d. pick (o d && le-ltb (starts s power) (records s) k d) (part (starts s power) (ends s power)) empty_part
 
-    pub run-found :
+    pub run_found :
         in_order s ≡ true →
         i < records s →
         (j : ℕ) →
         j ≡ first (λ k. power_is false power (word_at s k)) i (records s - i) →
         part i j ≡ run_of s power
     unfolding run_of
-    run-found o h j f =
+    run_found o h j f =
         let k : starts s power < records s = omega (arith, start-at) in
         let g : j ≡ ends s power = f ∙ ap (λ x. first (λ k. power_is false power (word_at s k)) x (records s - x)) start-at in
         (λ d. part (start-at d) (g d))

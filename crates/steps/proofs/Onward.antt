@@ -4,7 +4,7 @@
 --   step_skips                           the monomial was cancelled
 --   quotient-word                        the quotient's word is a monomial, and the lead's times it is the one divided
 --   says, says_remainder                 what the judges say of a quotient's word, and of a remainder term
---   factors_small, row-asked             what the product of its coefficient and the new row ask for
+--   factors_small, row_asked             what the product of its coefficient and the new row ask for
 --   remainder_asked                      what a remainder term asks for
 --   step_stops_quotient, step-divides    the quotient term is refused; it is written, and its products wait
 --   step_stops_remainder, step_moves     the remainder term is refused; it is written
@@ -43,7 +43,7 @@ use Rattle.judges.specs.Plans.{judges_of, quotient_reply, remainder_reply, Ready
 use Rattle.judges.specs.declared.Plan.{Plan}
 use Rattle.steps.specs.declared.State.{State}
 use Rattle.judges.proofs.Judging.{reply-word, passes_room, passes_fits, remainder_reply_lem, remainder-room}
-use Rattle.steps.proofs.Seen.{is_word, remains-seen}
+use Rattle.steps.proofs.Seen.{is_word, remains_seen}
 use Rattle.poly.proofs.Heads.{max_lower}
 use Rattle.heads.proofs.Greatest.{remaining_below}
 use Rattle.steps.proofs.Rows.{rows_alike}
@@ -223,11 +223,11 @@ module _ {p : ℕ} {f g : List ℕ} {plan : Plan} {q r w : List ℕ} {i n j k : 
         room : n < records q
         room = S.free (passes_room p f g plan R word quotient-word.0 n coef e)
 
-        pub row-asked :
+        pub row_asked :
             ((n < records q) × (records q < 2 ^ 32) × (0 < records g) × (records g < 2 ^ 32) ×
             ((x : ℕ) → suc x < records g → word_at g (suc x) < word_at g x)) ×
             (((word_at w' (records q + n) ≡ 0) × (word + word_at g 0 + 1 ≡ k) × (word_at w' 1 < k)) × Live q g w')
-        row-asked = (
+        row_asked = (
           (room, W.sides.few.0, R.some, R.few, R.divisor.falls),
           (
             (
@@ -284,7 +284,7 @@ module _ {p : ℕ} {f g : List ℕ} {plan : Plan} {q r w : List ℕ} {i n j k : 
         next-seen : remains (Lex 4) p later divided (seen p after) ≡ seen p next
         next-seen =
             ap (λ (x : Poly (Letters 4)). remains (Lex 4) p x divided (seen p after)) (terms_decoded base g 1 (records g - 1))
-            ∙ remains-seen p R.positive word coef after columns quotient-word.0 words.1 columns-words
+            ∙ remains_seen p R.positive word coef after columns quotient-word.0 words.1 columns-words
             (products 1 (records g - 1) (omega (arith, R.some)))
             ∙ ap (decoded_poly base) (sorted_same Rising R.positive next_alike)
 

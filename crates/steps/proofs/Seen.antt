@@ -1,7 +1,7 @@
 -- From words to exponents: what is done on the words of a sorted list is what the walk does on its exponents.
 --
 --   is_word        a word is a monomial
---   remains-seen   what remains after a quotient term, on words
+--   remains_seen   what remains after a quotient term, on words
 use Prim.Native.Nat.{ℕ, ◌<◌}
 use mathlib.Core.Path.{◌≡◌, sym, ◌∙◌, ap}
 use mathlib.Core.Bool.{true}
@@ -44,10 +44,10 @@ module _ (p : ℕ) (pos : 0 < p) where
     abbrev left : Poly Numbers
     left = sorted Rising p f ++ negated p products
 
-    pub remains-seen :
+    pub remains_seen :
         is_word m → Monomial f → Monomial g → Monomial products →
         remains (Lex 4) p (decoded_poly base g) (term (read base m) c) (seen p f) ≡ seen p (f ++ negated p products)
-    remains-seen h a b k =
+    remains_seen h a b k =
         let list : decoded_poly base left ≡ seen p f ++ negated p (times (term (read base m) c) (decoded_poly base g)) =
         decoded_append base (sorted Rising p f) (negated p products)
         ∙ ap (λ (x : Poly (Letters 4)). seen p f ++ x) (decoded_negated p products ∙ ap (negated p) (decoded_times m c g h b))

@@ -35,7 +35,7 @@ pub fn step(
     s: State,
     k: u64,
 ) -> State
-    requires k_nonzero { (0 < k) × (k ≡ max (key_at f.now s.next) (word_at work.old 1)) × (s.quotient < plan.quotients → s.quotient < records q.old) }
+    requires head { (0 < k) × (k ≡ max (key_at f.now s.next) (word_at work.old 1)) × (s.quotient < plan.quotients → s.quotient < records q.old) }
     requires ready { Ready p f.now g.now plan }
     requires walking { Walking p f.now g.now plan q.old r.old work.old s.next s.quotient s.remainder }
     ensures { Stepped p f.now g.now plan q.old r.old work.old k q.new r.new work.new result }
@@ -72,9 +72,9 @@ pub fn step(
 
 // Writes a quotient term and lets its products wait, from the divisor's second term on.
 fn put_row(g: &[u64], q: &mut [u64], work: &mut [u64], n: usize, word: u64, coef: u64, k: u64)
-    requires n_bound { (n < records q.old) × (records q.old < 2 ^ 32) × (0 < records g.now) × (records g.now < 2 ^ 32)
+    requires within { (n < records q.old) × (records q.old < 2 ^ 32) × (0 < records g.now) × (records g.now < 2 ^ 32)
         × ((i : ℕ) → suc i < records g.now → word_at g.now (suc i) < word_at g.now i) }
-    requires n_value { (word_at work.old (records q.old + n) ≡ 0) × (word + word_at g.now 0 + 1 ≡ k) × (word_at work.old 1 < k) }
+    requires vacant { (word_at work.old (records q.old + n) ≡ 0) × (word + word_at g.now 0 + 1 ≡ k) × (word_at work.old 1 < k) }
     requires live { Live q.old g.now work.old }
     ensures { RowPut g.now q.old work.old n word coef k q.new work.new }
 {

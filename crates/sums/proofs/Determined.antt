@@ -1,7 +1,7 @@
 -- Every public function that asks nothing takes anything and has one outcome: the contract is the one that the check generates from
 -- the source, so that a theorem here fails when a contract says less.
 --
---   NAME-asks-nothing    every argument is allowed
+--   NAME-asks_nothing    every argument is allowed
 --   NAME-determined      two outcomes that the contract allows for the same arguments are equal
 use mathlib.Core.Path.{◌≡◌, sym, ◌∙◌}
 use mathlib.Core.List.{[]}

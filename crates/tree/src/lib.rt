@@ -20,7 +20,7 @@ pub struct Node {
 // Takes all that waits at key k, and answers its coefficient modulo p. Where the climb from one record meets another of key k, that
 // one is taken next, with no need to reach the root in between.
 pub fn take(p: u64, rows: &[u64], cols: &[u64], work: &mut [u64], k: u64) -> u64
-    requires p_nonzero { (0 < p) × (p ≤ limit) × (0 < k) × (0 < records rows.now) }
+    requires within { (0 < p) × (p ≤ limit) × (0 < k) × (0 < records rows.now) }
     requires sides { Sides rows.now cols.now p }
     requires live { Live rows.now cols.now work.old }
     ensures { Taken p rows.now cols.now k work.old work.new result }
@@ -41,8 +41,8 @@ pub fn take(p: u64, rows: &[u64], cols: &[u64], work: &mut [u64], k: u64) -> u64
 
 // Lets one more row wait for its products from a column on. No key is as great as k, so the climb ends at the root.
 pub fn add(rows: &[u64], cols: &[u64], work: &mut [u64], row: usize, column: usize, k: u64)
-    requires row_bound { (row < records rows.now) × (records rows.now < 2 ^ 32) × (column < records cols.now) × (records cols.now < 2 ^ 32) }
-    requires row_value { (word_at work.old (records rows.now + row) ≡ 0) × (word_at rows.now row + word_at cols.now column + 1 < k) × (word_at work.old 1 < k) }
+    requires within { (row < records rows.now) × (records rows.now < 2 ^ 32) × (column < records cols.now) × (records cols.now < 2 ^ 32) }
+    requires vacant { (word_at work.old (records rows.now + row) ≡ 0) × (word_at rows.now row + word_at cols.now column + 1 < k) × (word_at work.old 1 < k) }
     requires live { Live rows.now cols.now work.old }
     ensures { Added rows.now cols.now row column k work.old work.new }
 {
@@ -54,8 +54,8 @@ pub fn add(rows: &[u64], cols: &[u64], work: &mut [u64], row: usize, column: usi
 
 // Lets every row wait for its product with the first column.
 pub fn start(rows: &[u64], cols: &[u64], work: &mut [u64])
-    requires cols_nonzero { (0 < records cols.now) × (records rows.now < 2 ^ 32) × (4 * records rows.now ≤ length work.old) }
-    requires by_index { ((i : ℕ) → i < records rows.now → word_at rows.now i < 2 ^ 63) × (word_at cols.now 0 < 2 ^ 63) }
+    requires within { (0 < records cols.now) × (records rows.now < 2 ^ 32) × (4 * records rows.now ≤ length work.old) }
+    requires words { ((i : ℕ) → i < records rows.now → word_at rows.now i < 2 ^ 63) × (word_at cols.now 0 < 2 ^ 63) }
     ensures { Started rows.now cols.now work.old work.new }
 {
     let count = rows.len() / 2;
@@ -125,7 +125,7 @@ fn better(a: Node, b: Node) -> Node
 
 // Writes a leaf, and the records above it: up to the root, or until the record beside has the key k. Answers where it ended.
 fn climb(work: &mut [u64], count: usize, leaf: usize, key: u64, tag: u64, k: u64) -> usize
-    requires count_le_leaf { (count ≤ leaf) × (leaf < 2 * count) × (4 * count ≤ length work.old) × (1 ≤ leaf) }
+    requires within { (count ≤ leaf) × (leaf < 2 * count) × (4 * count ≤ length work.old) × (1 ≤ leaf) }
     requires settled { Settled count leaf work.old }
     ensures { Climbed count leaf key tag k work.old work.new result }
 {

@@ -21,20 +21,20 @@ some : (c : Else-rows-eq0) → 0 < records c.args.rows.now
 some c = pos_of_ne-zero c.if-rows-eq0.false
 
 more : (c : Else-rows-eq0) → 0 < records c.args.cols.now
-more c = omega (arith, some c, c.requires.p_nonzero.2)
+more c = omega (arith, some c, c.requires.within.2)
 
 pub start-requires : goal.start-requires
 start-requires c = record {
-  cols_nonzero = (more (goal.at.start-requires c).Else-rows-eq0, omega (arith, c.requires.p_nonzero.2, c.requires.p_nonzero.3), c.requires.rows_in_bounds.0);
-  by_index = (words_small _ _ c.requires.rows_in_bounds.1, words_small _ _ c.requires.rows_in_bounds.2 0 (more (goal.at.start-requires c).Else-rows-eq0));
+  within = (more (goal.at.start-requires c).Else-rows-eq0, omega (arith, c.requires.within.2, c.requires.within.3), c.requires.lent.0);
+  words = (words_small _ _ c.requires.lent.1, words_small _ _ c.requires.lent.2 0 (more (goal.at.start-requires c).Else-rows-eq0));
 }
 
 pub fill-requires : goal.fill-requires
 fill-requires c =
-    let few : records c.args.cols.now < 2 ^ 32 = omega (arith, c.requires.p_nonzero.3) in
-    let fewer : records c.args.rows.now < 2 ^ 32 = omega (arith, c.requires.p_nonzero.2, c.requires.p_nonzero.3) in record {
-      p_nonzero = (c.requires.p_nonzero.0, c.requires.p_nonzero.1, some (goal.at.fill-requires c).Else-rows-eq0);
-      valid = (c.requires.rows_in_bounds.2, sides _ _ _ c.requires.rows_in_bounds.1 c.requires.rows_in_bounds.2 fewer few);
+    let few : records c.args.cols.now < 2 ^ 32 = omega (arith, c.requires.within.3) in
+    let fewer : records c.args.rows.now < 2 ^ 32 = omega (arith, c.requires.within.2, c.requires.within.3) in record {
+      within = (c.requires.within.0, c.requires.within.1, some (goal.at.fill-requires c).Else-rows-eq0);
+      valid = (c.requires.lent.2, sides _ _ _ c.requires.lent.1 c.requires.lent.2 fewer few);
       live = c.start.ensures.live;
     }
 

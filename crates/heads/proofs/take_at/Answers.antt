@@ -5,4 +5,4 @@ use Rattle.heads.proofs.take_at.Goals as goal
 pub returns-then-q-eq0 : goal.returns-then-q-eq0
 returns-then-q-eq0 c =
     let idle = c.requires.live.1 in
-    (nothing_taken c.requires.p_nonzero.0 c.requires.p_nonzero.2 (idle c.if-q-eq0.true) c.requires.live.0, idle)
+    (nothing_taken c.requires.within.0 c.requires.within.2 (idle c.if-q-eq0.true) c.requires.live.0, idle)

@@ -12,27 +12,27 @@ use Rattle.heads.proofs.take_head.Goals as goal
 use Rattle.heads.proofs.take_head.Goals.{After-head_at-h}
 
 pub head_at-h-requires : goal.head_at-h-requires
-head_at-h-requires c = (c.requires.p_nonzero.2, words_small _ _ c.requires.valid.0 _)
+head_at-h-requires c = (c.requires.within.2, words_small _ _ c.requires.valid.0 _)
 
 -- what the dividend has at the key
 head : (c : After-head_at-h) → let a = c.args in HeadTaken a.f.now a.i a.k c.head_at-h.result
 head c =
     let a = c.args in
-    head_taken a.f.now c.requires.valid.0.falls a.i a.k c.requires.p_nonzero.2 c.requires.p_nonzero.4
-    (omega (arith, c.requires.p_nonzero.3, le-max_left (key_at a.f.now a.i) (word_at a.work.now 1)))
+    head_taken a.f.now c.requires.valid.0.falls a.i a.k c.requires.within.2 c.requires.within.4
+    (omega (arith, c.requires.within.3, le-max_left (key_at a.f.now a.i) (word_at a.work.now 1)))
     c.head_at-h.result
     c.head_at-h.ensures
 
 pub add_mod-requires : goal.add_mod-requires
 add_mod-requires c = (
-  c.requires.p_nonzero.1,
-  (head c).coefs c.args.p c.requires.p_nonzero.0 (λ j h. (c.requires.valid.0.coefs j h).1),
-  omega (arith, c.neg_mod-minus.ensures, mod-lt (c.args.p - c.take_at.result) c.requires.p_nonzero.0),
+  c.requires.within.1,
+  (head c).coefs c.args.p c.requires.within.0 (λ j h. (c.requires.valid.0.coefs j h).1),
+  omega (arith, c.neg_mod-minus.ensures, mod-lt (c.args.p - c.take_at.result) c.requires.within.0),
 )
 
 pub returns : goal.returns
 returns c =
-    headed c.requires.p_nonzero.0 c.requires.valid.0 c.requires.valid.1 c.requires.live.0 c.requires.p_nonzero.4 c.requires.p_nonzero.2 c.requires.p_nonzero.3 c.requires.live.1
+    headed c.requires.within.0 c.requires.valid.0 c.requires.valid.1 c.requires.live.0 c.requires.within.4 c.requires.within.2 c.requires.within.3 c.requires.live.1
     c.take_at.ensures.0
     c.head_at-h.ensures
     c.take_at.ensures.1

@@ -10,15 +10,15 @@ largest_word-requires c = maxima-fits _ _ c.requires.valid.1
 
 pub inverse_mod-requires : goal.inverse_mod-requires
 inverse_mod-requires c =
-    let n = c.requires.valid.1.coefs 0 c.requires.prime.2 in
-    (c.requires.prime.1, c.requires.prime.0, n.0, n.1)
+    let n = c.requires.valid.1.coefs 0 c.requires.within.2 in
+    (c.requires.within.1, c.requires.within.0, n.0, n.1)
 
 pub largest_word-requires-then-test : goal.largest_word-requires-then-test
 largest_word-requires-then-test c = maxima-fits _ _ c.requires.valid.0
 
 pub returns-then-test : goal.returns-then-test
 returns-then-test c = (
-  prepared _ _ _ _ c.requires.prime c.requires.valid c.inverse_mod.ensures c.largest_word.ensures (λ e. c.largest_word-then-test.ensures),
+  prepared _ _ _ _ c.requires.within c.requires.valid c.inverse_mod.ensures c.largest_word.ensures (λ e. c.largest_word-then-test.ensures),
   refl,
   refl,
   refl,
@@ -26,7 +26,7 @@ returns-then-test c = (
 
 pub returns-else-test : goal.returns-else-test
 returns-else-test c = (
-  prepared _ _ _ _ c.requires.prime c.requires.valid c.inverse_mod.ensures c.largest_word.ensures (λ e. absurd (never e c.if-test.false)),
+  prepared _ _ _ _ c.requires.within c.requires.valid c.inverse_mod.ensures c.largest_word.ensures (λ e. absurd (never e c.if-test.false)),
   refl,
   refl,
   refl,

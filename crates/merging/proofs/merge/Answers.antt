@@ -4,12 +4,12 @@ use Rattle.merging.proofs.Merging.{merge-starts, merge_skips, merge_writes, merg
 use Rattle.merging.proofs.merge.Goals as goal
 
 pub loop-i-init : goal.loop-i-init
-loop-i-init c = merge-starts _ _ _ _ _ c.requires.p_nonzero.0
+loop-i-init c = merge-starts _ _ _ _ _ c.requires.within.0
 
 pub greatest_left-next-requires : goal.greatest_left-next-requires
 greatest_left-next-requires c =
     let m = c.loop-i.invariant in record {
-      p_nonzero = (c.requires.p_nonzero.0, c.requires.p_nonzero.1, m.first_within, m.second_within, c.loop-i-test.true);
+      within = (c.requires.within.0, c.requires.within.1, m.first_within, m.second_within, c.loop-i-test.true);
       valid = c.requires.valid;
     }
 
@@ -22,7 +22,7 @@ shape_of-room-then-n-most c =
 
 pub returns-then-n-most : goal.returns-then-n-most
 returns-then-n-most c =
-    merge_full _ _ _ _ _ c.requires.p_nonzero.0 _ _ _ _ _ c.loop-i.invariant c.greatest_left-next.ensures c.if-next-ne0.true
+    merge_full _ _ _ _ _ c.requires.within.0 _ _ _ _ _ c.loop-i.invariant c.greatest_left-next.ensures c.if-next-ne0.true
     (omega (arith, c.if-n-most.true, c.loop-i.invariant.filling.as_long))
 
 pub put_term-requires : goal.put_term-requires
@@ -41,7 +41,7 @@ loop-i-smaller-then-next-ne0 c = omega (arith, c.greatest_left-next.ensures.onwa
 pub loop-i-preserved-then-next-ne0 : goal.loop-i-preserved-then-next-ne0
 loop-i-preserved-then-next-ne0 c =
     let m = c.loop-i.invariant in
-    merge_writes _ _ _ _ _ c.requires.p_nonzero.0 _ _ _ _ _ m c.greatest_left-next.ensures _ c.put_term.ensures
+    merge_writes _ _ _ _ _ c.requires.within.0 _ _ _ _ _ m c.greatest_left-next.ensures _ c.put_term.ensures
     c.if-next-ne0.true (omega (arith, m.filling.as_long, m.filling.within, c.if-n-most.false))
 
 pub loop-i-smaller : goal.loop-i-smaller
@@ -49,7 +49,7 @@ loop-i-smaller c = omega (arith, c.greatest_left-next.ensures.onward)
 
 pub loop-i-preserved : goal.loop-i-preserved
 loop-i-preserved c =
-    merge_skips _ _ _ _ _ c.requires.p_nonzero.0 _ _ _ _ _ c.loop-i.invariant c.greatest_left-next.ensures c.if-next-ne0.false
+    merge_skips _ _ _ _ _ c.requires.within.0 _ _ _ _ _ c.loop-i.invariant c.greatest_left-next.ensures c.if-next-ne0.false
 
 pub returns : goal.returns
-returns c = merge-done _ _ _ _ _ c.requires.p_nonzero.0 _ _ _ _ c.loop-i.invariant c.loop-i-test.false
+returns c = merge-done _ _ _ _ _ c.requires.within.0 _ _ _ _ c.loop-i.invariant c.loop-i-test.false

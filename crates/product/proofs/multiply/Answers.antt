@@ -13,7 +13,7 @@ use Rattle.product.proofs.multiply.Goals as goal
 
 pub burst_at-requires : goal.burst_at-requires
 burst_at-requires c =
-    (exponents_small _ _ c.requires.rows_in_bounds.1, exponents_small _ _ c.requires.rows_in_bounds.2)
+    (exponents_small _ _ c.requires.lent.1, exponents_small _ _ c.requires.lent.2)
 
 pub returns-then-burst_at-lt-LETTERS : goal.returns-then-burst_at-lt-LETTERS
 returns-then-burst_at-lt-LETTERS c =
@@ -33,6 +33,6 @@ returns c =
     let room-long : length room₁ ≡ length a.room.now = search rules in
     let work_long : length work₁ ≡ length a.work.now = search rules in
     let code = c.room_reply-reply.result in
-    ends-filled _ a.rows.now a.cols.now a.room.now a.work.now c.requires.p_nonzero.0 c.requires.rows_in_bounds.1 c.requires.rows_in_bounds.2
+    ends-filled _ a.rows.now a.cols.now a.room.now a.work.now c.requires.within.0 c.requires.lent.1 c.requires.lent.2
     (subst (λ x. 4 ≤ x) c.burst_at.ensures c.if-burst_at-lt-LETTERS.false) room₁ n code room-long c.expand-n.ensures c.room_reply-reply.ensures _
     (c.end-2.ensures ∙ ap (λ (x : ℕ). outcome (told code n 0) (kept code n room₁) [] (replicate x 0)) work_long)

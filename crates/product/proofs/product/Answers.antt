@@ -52,8 +52,8 @@ multiply-requires c =
     let g = good (goal.at.multiply-requires c).Else-due-ne0 in
     let s = c.args in
     let shorter : records s.a.now ≤ records s.b.now = omega (arith, c.if-a-b.true) in record {
-      p_nonzero = (g.0.positive, g.0.within, shorter, g.0.second_short);
-      rows_in_bounds = (omega (arith, g.1, min-eq_left shorter), g.0.first, g.0.second);
+      within = (g.0.positive, g.0.within, shorter, g.0.second_short);
+      lent = (omega (arith, g.1, min-eq_left shorter), g.0.first, g.0.second);
     }
 
 pub multiply-requires-else-a-b : goal.multiply-requires-else-a-b
@@ -61,8 +61,8 @@ multiply-requires-else-a-b c =
     let g = good (goal.at.multiply-requires-else-a-b c).Else-due-ne0 in
     let s = c.args in
     let shorter : records s.b.now ≤ records s.a.now = omega (arith, c.if-a-b.false) in record {
-      p_nonzero = (g.0.positive, g.0.within, shorter, g.0.first_short);
-      rows_in_bounds = (omega (arith, g.1, min-eq_right shorter), g.0.second, g.0.first);
+      within = (g.0.positive, g.0.within, shorter, g.0.first_short);
+      lent = (omega (arith, g.1, min-eq_right shorter), g.0.second, g.0.first);
     }
 
 pub returns-then-a-b : goal.returns-then-a-b

@@ -39,7 +39,7 @@ good c =
 pub merge-n-requires : goal.merge-n-requires
 merge-n-requires c =
     let g = good (goal.at.merge-n-requires c).Else-due-ne0 in record {
-      p_nonzero = (g.0.positive, g.0.within, g.1.0.even);
+      within = (g.0.positive, g.0.within, g.1.0.even);
       valid = (g.0.first, g.0.second);
     }
 

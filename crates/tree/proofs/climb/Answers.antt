@@ -10,7 +10,7 @@ bounds-work-at-2 c = simp length-set (omega arith)
 
 pub loop-at-init : goal.loop-at-init
 loop-at-init c =
-    climb-starts _ _ _ _ _ c.requires.count_le_leaf.0 c.requires.count_le_leaf.1 c.requires.count_le_leaf.3 c.requires.count_le_leaf.2 c.requires.settled
+    climb-starts _ _ _ _ _ c.requires.within.0 c.requires.within.1 c.requires.within.3 c.requires.within.2 c.requires.settled
 
 pub overflow_mul-other : goal.overflow_mul-other
 overflow_mul-other c = omega (arith, beside_within _ c.loop-at.at c.loop-at.invariant.within)
@@ -39,7 +39,7 @@ shape_of-work-then-other-k c = c.loop-at.invariant.as_long ∙ simp length-set
 pub returns-then-other-k : goal.returns-then-other-k
 returns-then-other-k c =
     let l = c.loop-at in
-    climb-ends _ _ _ _ _ _ _ _ _ _ _ c.requires.count_le_leaf.0 c.requires.count_le_leaf.1 c.requires.count_le_leaf.2 l.invariant
+    climb-ends _ _ _ _ _ _ _ _ _ _ _ c.requires.within.0 c.requires.within.1 c.requires.within.2 l.invariant
     (beside_from l.at c.loop-at-test.true)
     (beside_within _ l.at l.invariant.within)
     (settled_beside _ _ l.at l.invariant.settled)
@@ -61,4 +61,4 @@ shape_of-work c = c.loop-at.invariant.as_long ∙ simp length-set
 pub returns : goal.returns
 returns c =
     let l = c.loop-at in
-    climb-ends _ _ _ _ _ _ _ _ _ _ _ c.requires.count_le_leaf.0 c.requires.count_le_leaf.1 c.requires.count_le_leaf.2 l.invariant l.invariant.from l.invariant.within l.invariant.settled (inl (omega arith))
+    climb-ends _ _ _ _ _ _ _ _ _ _ _ c.requires.within.0 c.requires.within.1 c.requires.within.2 l.invariant l.invariant.from l.invariant.within l.invariant.settled (inl (omega arith))

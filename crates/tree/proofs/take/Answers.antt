@@ -12,7 +12,7 @@ in-hand : (c : In-loop-work) → let s = c.args in
     Hand s.rows.now s.cols.now c.loop-work.work s.k (tag_at c.loop-work.work c.loop-work.at)
 in-hand c =
     let t = c.loop-work.invariant in
-    hand _ _ _ _ _ c.requires.p_nonzero.2 t.from t.within t.settled t.waiting c.loop-work-test.true
+    hand _ _ _ _ _ c.requires.within.2 t.from t.within t.settled t.waiting c.loop-work-test.true
 
 -- the two numbers that are multiplied
 factors : (c : In-loop-work) → let s = c.args in let tag = tag_at c.loop-work.work c.loop-work.at in
@@ -22,12 +22,12 @@ factors c = let S = c.requires.sides in (S.rows_coefs _ (in-hand c).row, S.cols_
 small : (c : In-loop-work) → let s = c.args in let tag = tag_at c.loop-work.work c.loop-work.at in
     coef_at s.rows.now (row_of tag) * coef_at s.cols.now (column_of tag) < 2 ^ 62
 small c =
-    let bounded = c.requires.p_nonzero.1 in
+    let bounded = c.requires.within.1 in
     product_small _ _ (omega (arith, factors c, bounded)) (omega (arith, factors c, bounded))
 
 pub loop-work-init : goal.loop-work-init
 loop-work-init c =
-    take-starts _ _ _ _ _ c.requires.p_nonzero.0 c.requires.p_nonzero.3 c.requires.live
+    take-starts _ _ _ _ _ c.requires.within.0 c.requires.within.3 c.requires.live
 
 pub overflow_mul-sum : goal.overflow_mul-sum
 overflow_mul-sum c = omega (arith, (in-hand (goal.at.overflow_mul-sum c).In-loop-work).row)
@@ -58,10 +58,10 @@ overflow_mul-sum-in-loop-work-2 c = omega (arith, small (goal.at.overflow_mul-su
 
 pub overflow_add-sum-in-loop-work-2 : goal.overflow_add-sum-in-loop-work-2
 overflow_add-sum-in-loop-work-2 c =
-    omega (arith, small (goal.at.overflow_add-sum-in-loop-work-2 c).In-loop-work, c.loop-work.invariant.small, c.requires.p_nonzero.1)
+    omega (arith, small (goal.at.overflow_add-sum-in-loop-work-2 c).In-loop-work, c.loop-work.invariant.small, c.requires.within.1)
 
 pub nonzero_rem-sum : goal.nonzero_rem-sum
-nonzero_rem-sum c = omega (arith, c.requires.p_nonzero.0)
+nonzero_rem-sum c = omega (arith, c.requires.within.0)
 
 pub overflow_mul-row : goal.overflow_mul-row
 overflow_mul-row c = omega (arith, (in-hand (goal.at.overflow_mul-row c).In-loop-work).row)
@@ -84,7 +84,7 @@ overflow_add-count c = omega (arith, (in-hand (goal.at.overflow_add-count c).In-
 pub climb-at-requires : goal.climb-at-requires
 climb-at-requires c =
     let h = in-hand (goal.at.climb-at-requires c).In-loop-work in record {
-      count_le_leaf = (omega arith, omega (arith, h.row), c.loop-work.invariant.long, omega (arith, c.requires.p_nonzero.3));
+      within = (omega arith, omega (arith, h.row), c.loop-work.invariant.long, omega (arith, c.requires.within.3));
       settled = h.settled;
     }
 
@@ -93,7 +93,7 @@ loop-work-smaller c =
     let rows = c.args.rows.now in
     let cols = c.args.cols.now in
     let gone =
-    taken rows cols _ c.requires.sides _ _ _ _ _ c.requires.p_nonzero.2 (in-hand (goal.at.loop-work-smaller c).In-loop-work) _ c.after-next.ensures c.climb-at.ensures
+    taken rows cols _ c.requires.sides _ _ _ _ _ c.requires.within.2 (in-hand (goal.at.loop-work-smaller c).In-loop-work) _ c.after-next.ensures c.climb-at.ensures
     (λ u. 1) in
     omega (
       arith,
@@ -104,11 +104,11 @@ loop-work-smaller c =
 
 pub loop-work-preserved : goal.loop-work-preserved
 loop-work-preserved c =
-    take-steps _ _ _ _ _ _ _ _ _ _ _ _ c.requires.p_nonzero.0 c.requires.p_nonzero.2 c.requires.sides c.loop-work.invariant (in-hand (goal.at.loop-work-preserved c).In-loop-work) c.after-next.ensures
+    take-steps _ _ _ _ _ _ _ _ _ _ _ _ c.requires.within.0 c.requires.within.2 c.requires.sides c.loop-work.invariant (in-hand (goal.at.loop-work-preserved c).In-loop-work) c.after-next.ensures
     c.climb-at.ensures
 
 pub shape_of-work : goal.shape_of-work
 shape_of-work c = c.loop-work.invariant.as_long
 
 pub returns : goal.returns
-returns c = take-ends _ _ _ _ _ _ _ _ c.requires.p_nonzero.3 c.loop-work.invariant c.loop-work-test.false
+returns c = take-ends _ _ _ _ _ _ _ _ c.requires.within.3 c.loop-work.invariant c.loop-work-test.false

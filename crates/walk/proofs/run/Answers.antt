@@ -39,7 +39,7 @@ slice_bounds-step-end-in-loop-k c = sym (length-take-le _ _ (rows_inside c.loop-
 pub step-s-requires : goal.step-s-requires
 step-s-requires c =
     let grew = grows_on c.loop-k.invariant c.enough_rows-rows.ensures in record {
-      k_nonzero = (c.loop-k-test.true, grew.top, grew.free);
+      head = (c.loop-k-test.true, grew.top, grew.free);
       ready = c.requires.ready;
       walking = grew.walking;
     }

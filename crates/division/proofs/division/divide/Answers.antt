@@ -40,8 +40,8 @@ divide_good-requires c =
     let a = c.args in
     let W = (rules_walkable a.p a.f.now a.g.now a.q.now a.work.now (lent 4 a.r.now room_terms ∷ []) (told (goal.at.divide_good-requires c).After-first-due) c.if-due-ne0.false).0 in
     let G = W.good in record {
-      prime = (G.prime, G.within, G.first, G.second, W.some, G.second_short);
-      q_bound = (W.room_short, W.long);
+      inputs = (G.prime, G.within, G.first, G.second, W.some, G.second_short);
+      rooms = (W.room_short, W.long);
     }
 
 pub returns : goal.returns

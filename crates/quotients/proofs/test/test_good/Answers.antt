@@ -8,8 +8,8 @@ use Rattle.quotients.proofs.test.test_good.Goals as goal
 
 pub prepare-plan-requires : goal.prepare-plan-requires
 prepare-plan-requires c =
-    let asked = c.requires.prime in record {
-      prime = (asked.0, asked.1, asked.4, omega (arith, asked.5));
+    let asked = c.requires.inputs in record {
+      within = (asked.0, asked.1, asked.4, omega (arith, asked.5));
       valid = (asked.2, asked.3);
     }
 
@@ -17,7 +17,7 @@ pub run-s-requires : goal.run-s-requires
 run-s-requires c =
     let known = c.prepare-plan.ensures in record {
       ready = known.0;
-      fresh = call_starts known.0 c.args.q.now _ _ c.clear.ensures known.2 known.3 c.requires.q_bound.0 c.requires.q_bound.1;
+      fresh = call_starts known.0 c.args.q.now _ _ c.clear.ensures known.2 known.3 c.requires.rooms.0 c.requires.rooms.1;
     }
 
 pub leave-requires : goal.leave-requires

@@ -2,7 +2,7 @@
 use Prim.Native.Nat.{◌*◌}
 use Rattle.division.specs.Division.{divide_of}
 use Rattle.compared.proofs.Arrays.{part-long}
-use Rattle.rows.proofs.Said.{tried-lent}
+use Rattle.rows.proofs.Said.{tried_lent}
 use Rattle.rows.proofs.polys.division_tried.Goals as goal
 
 pub slice_bounds-division_in-end : goal.slice_bounds-division_in-end
@@ -20,7 +20,7 @@ slice_bounds-division_in-end-3 c =
 pub returns : goal.returns
 returns c =
     let a = c.args in
-    tried-lent a.says a.quotient.now a.remainder.now (divide_of a.p a.f.now a.g.now)
+    tried_lent a.says a.quotient.now a.remainder.now (divide_of a.p a.f.now a.g.now)
     (2 * a.q) (2 * a.r) a.work 16384 _ _ _ _
     c.requires.0
     c.requires.1

@@ -4,7 +4,7 @@ use mathlib.Core.List.{[]}
 use native.Mathlib.Omega.{arith}
 use Rattle.product.specs.Products.{product_of}
 use Rattle.compared.proofs.Arrays.{part-long}
-use Rattle.rows.proofs.Said.{tried-lent}
+use Rattle.rows.proofs.Said.{tried_lent}
 use Rattle.rows.proofs.polys.product_tried.Goals as goal
 
 pub slice_bounds-product_in-end : goal.slice_bounds-product_in-end
@@ -19,7 +19,7 @@ slice_bounds-product_in-end-2 c =
 pub returns : goal.returns
 returns c =
     let a = c.args in
-    tried-lent a.says a.written.now [] (λ room none work. product_of a.p a.a.now a.b.now room work)
+    tried_lent a.says a.written.now [] (λ room none work. product_of a.p a.a.now a.b.now room work)
     (2 * a.room) 0 a.work 16384 _ _ _ _
     c.requires.0
     (omega arith)

@@ -4,7 +4,7 @@ use mathlib.Core.List.{[]}
 use native.Mathlib.Omega.{arith}
 use Rattle.division.specs.Division.{test_of}
 use Rattle.compared.proofs.Arrays.{part-long}
-use Rattle.rows.proofs.Said.{tried-lent}
+use Rattle.rows.proofs.Said.{tried_lent}
 use Rattle.rows.proofs.polys.test_tried.Goals as goal
 
 pub slice_bounds-test_in-end : goal.slice_bounds-test_in-end
@@ -19,7 +19,7 @@ slice_bounds-test_in-end-2 c =
 pub returns : goal.returns
 returns c =
     let a = c.args in
-    tried-lent a.says a.quotient.now [] (λ room none work. test_of a.p a.f.now a.g.now room work)
+    tried_lent a.says a.quotient.now [] (λ room none work. test_of a.p a.f.now a.g.now room work)
     (2 * a.q) 0 a.work 16384 _ _ _ _
     c.requires.0
     (omega arith)

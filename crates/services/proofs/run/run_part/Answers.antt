@@ -3,7 +3,7 @@ use Prim.Native.Nat.{◌≤◌}
 use mathlib.Core.Path.{sym, ◌∙◌}
 use native.Mathlib.Omega.{arith}
 use Rattle.poly.specs.Words.{records}
-use Rattle.services.proofs.Parts.{run-refused, run_missing, run-found, end_within}
+use Rattle.services.proofs.Parts.{run-refused, run_missing, run_found, end_within}
 use Rattle.services.proofs.run.run_part.Goals as goal
 
 pub returns-then-not-in_order : goal.returns-then-not-in_order
@@ -25,7 +25,7 @@ overflow_mul-result-2 c =
 
 pub returns : goal.returns
 returns c =
-    run-found _ _ _ c.scan_power-start.ensures
+    run_found _ _ _ c.scan_power-start.ensures
     (sym c.in_order.ensures ∙ c.if-not-in_order.false)
     c.if-s-start.false
     _
