@@ -23,12 +23,12 @@ shape_of-room-then-n-most c =
 pub returns-then-n-most : goal.returns-then-n-most
 returns-then-n-most c =
     merge_full _ _ _ _ _ c.requires.within.0 _ _ _ _ _ c.loop-i.invariant c.greatest_left-next.ensures c.if-next-ne0.true
-    (omega (arith, c.if-n-most.true, c.loop-i.invariant.filling.as_long))
+    (omega (arith, c.loop-i.invariant.filling.as_long))
 
 pub put_term-requires : goal.put_term-requires
 put_term-requires c =
     let m = c.loop-i.invariant in
-    omega (arith, m.filling.as_long, m.filling.within, c.if-n-most.false)
+    omega (arith, m.filling.as_long, m.filling.within)
 
 pub overflow_add-n : goal.overflow_add-n
 overflow_add-n c =
@@ -42,7 +42,7 @@ pub loop-i-preserved-then-next-ne0 : goal.loop-i-preserved-then-next-ne0
 loop-i-preserved-then-next-ne0 c =
     let m = c.loop-i.invariant in
     merge_writes _ _ _ _ _ c.requires.within.0 _ _ _ _ _ m c.greatest_left-next.ensures _ c.put_term.ensures
-    c.if-next-ne0.true (omega (arith, m.filling.as_long, m.filling.within, c.if-n-most.false))
+    c.if-next-ne0.true (omega (arith, m.filling.as_long, m.filling.within))
 
 pub loop-i-smaller : goal.loop-i-smaller
 loop-i-smaller c = omega (arith, c.greatest_left-next.ensures.onward)

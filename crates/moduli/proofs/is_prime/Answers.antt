@@ -5,7 +5,7 @@ use Rattle.moduli.proofs.Trial.{tried_none, tried_more, tried_prime, divided_not
 use Rattle.moduli.proofs.is_prime.Goals as goal
 
 pub returns-then-p-lt2 : goal.returns-then-p-lt2
-returns-then-p-lt2 c = sym (small_not_prime c.if-p-lt2.true)
+returns-then-p-lt2 c = sym (small_not_prime (omega arith))
 
 pub loop-d-init : goal.loop-d-init
 loop-d-init c = (omega arith, omega arith, tried_none c.args.p)
@@ -27,4 +27,4 @@ loop-d-preserved c = (
 )
 
 pub returns : goal.returns
-returns c = sym (tried_prime c.if-p-lt2.false c.loop-d.invariant.2 c.loop-d-test.false)
+returns c = sym (tried_prime (omega arith) c.loop-d.invariant.2 c.loop-d-test.false)
