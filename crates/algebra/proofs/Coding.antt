@@ -1,10 +1,10 @@
 -- Polynomials under another name for their monomials: what is done on the names is what is done on the monomials.
 --
---   Named O O'                                            names of monomials that multiply as they do, and that keep the order of those that fit
---   named N f                                             f with the name of each monomial
+--   Named O O'                 names of monomials that multiply as they do, and that keep the order of those that fit
+--   named N f                  f with the name of each monomial
 --   named-append, named-times, named-mul, named-negated   of sums, products and negatives
---   named_all                                             a property of the names
---   named-sorted, named-norm                              sorting and the normal form, where every monomial fits
+--   named_all                  a property of the names
+--   named-sorted, named-norm   sorting and the normal form, where every monomial fits
 use Prim.Native.Nat.{ℕ, zero, suc, ◌-◌, ◌*◌, ◌<◌}
 use mathlib.Core.Path.{◌≡◌, refl, ◌∙◌, ap, subst}
 use mathlib.Core.List.{[], ◌∷◌, ◌++◌}

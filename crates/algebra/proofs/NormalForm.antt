@@ -1,18 +1,18 @@
 -- The normal form: it is the polynomial, it is normal, and it is the only one.
 --
---   Small p f                                                every number of f is below p
---   reduced_small                                            reduced numbers are below p
---   below_trans                                              of `Below O m f`: every monomial of f is below m
---   apart, below_coef                                        a term below m is not at m; the coefficient at a monomial that all are below is 0
---   only_here                                                of a monomial and itself
+--   Small p f                every number of f is below p
+--   reduced_small            reduced numbers are below p
+--   below_trans              of `Below O m f`: every monomial of f is below m
+--   apart, below_coef        a term below m is not at m; the coefficient at a monomial that all are below is 0
+--   only_here                of a monomial and itself
 --   sorted_falling, sorted_small, sorted_all, sorted-total   of `sorted`
---   norm_normal, norm_all, norm-total, norm_equal            of `norm`
---   equal_refl, equal_sym, equal_trans                       of `Equal`
---   same_tails                                               equal polynomials with the same first term have equal rests
---   normal_unique                                            normal polynomials that are equal are the same list
---   norm_unique, norm_self                                   equal polynomials have one normal form; a normal polynomial is its own
---   equal_total                                              equal polynomials have the same totals
---   extract                                                  the normal form of a term above all the rest, and the rest
+--   norm_normal, norm_all, norm-total, norm_equal   of `norm`
+--   equal_refl, equal_sym, equal_trans   of `Equal`
+--   same_tails               equal polynomials with the same first term have equal rests
+--   normal_unique            normal polynomials that are equal are the same list
+--   norm_unique, norm_self   equal polynomials have one normal form; a normal polynomial is its own
+--   equal_total              equal polynomials have the same totals
+--   extract                  the normal form of a term above all the rest, and the rest
 use Prim.Native.Nat.{ℕ, zero, suc, ◌+◌, ◌*◌, ◌%◌, ◌<◌}
 use mathlib.Core.Path.{◌≡◌, refl, sym, ◌∙◌, ap, subst}
 use mathlib.Core.List.{[], ◌∷◌}

@@ -1,13 +1,13 @@
 -- Laws of `Same`: numbers modulo p.
 --
 --   same_refl, same_sym, same_trans, same_eq   an equivalence; equal numbers are the same
---   same_by, same_witness                      a and b are the same just where a + u · p ≡ b + v · p for some u and v: a form that omega reads
---   same_mod, same_multiple                    a % p is the same as a; a multiple of p is the same as 0
---   same_add, same_mul                         sums and products of the same numbers are the same
---   same_cancel                                what is added on both sides may go
---   same_minus                                 a + (p − 1) · a is the same as 0: p − 1 is −1
---   same_below                                 numbers below p that are the same are equal
---   same_decided                               sameness is decided
+--   same_by, same_witness     a and b are the same just where a + u · p ≡ b + v · p for some u and v: a form that omega reads
+--   same_mod, same_multiple   a % p is the same as a; a multiple of p is the same as 0
+--   same_add, same_mul        sums and products of the same numbers are the same
+--   same_cancel               what is added on both sides may go
+--   same_minus                a + (p − 1) · a is the same as 0: p − 1 is −1
+--   same_below                numbers below p that are the same are equal
+--   same_decided              sameness is decided
 use Prim.Native.Nat.{ℕ, ◌+◌, ◌-◌, ◌*◌, ◌/◌, ◌%◌, ◌<◌}
 use mathlib.Core.Path.{◌≡◌, refl, sym, ◌∙◌, ap}
 use native.Mathlib.Nat.{mod-mod, mod-eq_of_lt, add-mul-mod_self_right, div-add-mod'}

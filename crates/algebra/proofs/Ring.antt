@@ -1,9 +1,9 @@
 -- The ring laws, up to equal coefficients: f ++ g is the sum, mul f g the product, negated p f the negative.
 --
 --   sum_equal, sum_comm, sum_assoc, sum-cancel, sum-cancel-left, sum_negated   of the sum
---   mul_equal, mul_comm, mul_assoc, mul_sum, sum-mul, mul_one                  of the product
---   negated_equal, mul-negated, total-negated, coef-negated                    of the negative
---   difference-zero                                                            polynomials whose difference is zero are equal
+--   mul_equal, mul_comm, mul_assoc, mul_sum, sum-mul, mul_one   of the product
+--   negated_equal, mul-negated, total-negated, coef-negated   of the negative
+--   difference-zero   polynomials whose difference is zero are equal
 use Prim.Native.Nat.{ℕ, ◌-◌, ◌*◌, ◌<◌}
 use mathlib.Core.Path.{◌≡◌, sym, ◌∙◌, ap}
 use mathlib.Core.List.{[], ◌∷◌, ◌++◌}

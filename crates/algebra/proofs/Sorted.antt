@@ -1,12 +1,12 @@
 -- Lists with a term for each monomial: what `sorted` does depends only on coefficients and on which monomials stand in the list.
 --
---   count-append, count-negated, below_count, head_count          of `count`
---   all_count, count_all                                          a property of every monomial, monomial by monomial that stands in the list
+--   count-append, count-negated, below_count, head_count   of `count`
+--   all_count, count_all       a property of every monomial, monomial by monomial that stands in the list
 --   alike_refl, alike_sym, alike_trans, alike_append, alike_all   of `Alike`
---   sorted_alike                                                  f and its sorted list are alike
---   falling_unique                                                falling lists with numbers below p that are alike are the same list
---   sorted_same, sorted_self                                      alike polynomials have one sorted list; a falling list with numbers below p is its own
---   sorted_head                                                   how the sorted list splits at its greatest monomial
+--   sorted_alike               f and its sorted list are alike
+--   falling_unique             falling lists with numbers below p that are alike are the same list
+--   sorted_same, sorted_self   alike polynomials have one sorted list; a falling list with numbers below p is its own
+--   sorted_head                how the sorted list splits at its greatest monomial
 use Prim.Native.Nat.{ℕ, zero, suc, ◌+◌, ◌<◌}
 use mathlib.Core.Path.{◌≡◌, refl, sym, ◌∙◌, ap, subst}
 use mathlib.Core.List.{[], ◌∷◌, ◌++◌}

@@ -1,12 +1,12 @@
 -- Linear sums over a polynomial's terms, with which every law of polynomials is shown.
 --
---   total φ f                                                    the sum of number times φ (monomial) over the terms of f
---   total-append, total-times, total-mul                         of a sum, of a term times a polynomial, of a product
+--   total φ f            the sum of number times φ (monomial) over the terms of f
+--   total-append, total-times, total-mul   of a sum, of a term times a polynomial, of a product
 --   total_plus, total_scale, total-zero, total_ext, total_swap   of sums of functions; two sums change places
---   total_same                                                   the same modulo p where the functions are
---   at K m, coef-total                                           a coefficient is a total
---   coef-append                                                  the coefficients of a sum are the sums
---   equal_by                                                     polynomials with the same totals are equal
+--   total_same           the same modulo p where the functions are
+--   at K m, coef-total   a coefficient is a total
+--   coef-append          the coefficients of a sum are the sums
+--   equal_by             polynomials with the same totals are equal
 use Prim.Native.Nat.{ℕ, ◌+◌, ◌*◌}
 use mathlib.Core.Path.{◌≡◌, refl, sym}
 use mathlib.Core.List.{[], ◌∷◌, ◌++◌}

@@ -1,14 +1,14 @@
 -- How a call ends: refused by the first rule due, stopped by a later reply, or finished.
 --
---   fold_first_due                               a fold tells a refusal exactly when it is the first due
---   first_of                                     the first of the rules that is due
---   Ends                                         a call that ends in one of these ways: refused, stopped or finished
---   refused, stopped, finished                   what it leaves in each
---   parts                                        the four parts of an outcome
+--   fold_first_due               a fold tells a refusal exactly when it is the first due
+--   first_of                     the first of the rules that is due
+--   Ends                         a call that ends in one of these ways: refused, stopped or finished
+--   refused, stopped, finished   what it leaves in each
+--   parts                        the four parts of an outcome
 --   ends_unchanged, ends-cleared, ends_written   report and arrays after 1 to 8, after a later reply, and after 0
---   told-refused, told-stopped, told-finished    what a report's number says of the way
---   refuses                                      each of 1 to 8 is told exactly when it is the first due of the ordered rules
---   replies                                      the other numbers exactly when none of those is due and they are the later reply
+--   told-refused, told-stopped, told-finished   what a report's number says of the way
+--   refuses                      each of 1 to 8 is told exactly when it is the first due of the ordered rules
+--   replies                      the other numbers exactly when none of those is due and they are the later reply
 use Prim.Native.Nat.{ℕ, ◌<◌, ◌≤◌}
 use mathlib.Core.Path.{◌≡◌, sym, ◌∙◌, ap}
 use mathlib.Core.Bool.{Bool}

@@ -1,9 +1,9 @@
 -- What is claimed of the check, shown of its contract as the check generates it from the source.
 --
---   check_accepts                                                                       it passes just where p is a modulus and the slice is Valid and within its number of terms
+--   check_accepts   it passes just where p is a modulus and the slice is Valid and within its number of terms
 --   check-modulus, check-odd, check-long, check-guard, check-order, check-coefficient   each refusal is told just where its rule says so and
---                                                                                       none of a lower number is due
---   check-done                                                                          0 with the term count where none is
+--                   none of a lower number is due
+--   check-done      0 with the term count where none is
 use Prim.Native.Nat.{ℕ, suc, ◌*◌, ◌%◌, ◌<◌, ◌≤◌}
 use mathlib.Core.Path.{◌≡◌, refl, sym, ◌∙◌, ap}
 use mathlib.Core.Bool.{true, false}

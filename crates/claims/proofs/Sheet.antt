@@ -1,7 +1,7 @@
 -- The sheet of examples.
 --
---   sheet                                                                                  every row is right: each is computed
---   sheet_holds                                                                            so every row holds: what the contracts say is what the sheet says, in every number and every word
+--   sheet         every row is right: each is computed
+--   sheet_holds   so every row holds: what the contracts say is what the sheet says, in every number and every word
 --   same_words_lem, same_report_lem, same_outcome_lem, same_number_lem, same_balance_lem   what passes the test is equal
 use Prim.Native.Nat.{ℕ}
 use mathlib.Core.Path.{◌≡◌, refl, ap}

@@ -1,9 +1,9 @@
 -- What is claimed of the calls on single numbers and words, and of the profile: each reply is given exactly when its rule says so.
 --
---   modulus-told                                                                    the prime test: 1 where p is not a prime in its range
+--   modulus-told             the prime test: 1 where p is not a prime in its range
 --   field_sum-told, field_product-told, inverse-told, balanced-told, residue-told   1 first, then 6 for an operand that is not good
---   pack-told, unpack-told                                                          4 for an exponent above 32,767, and for a set guard bit
---   profile_told                                                                    the report beside a profile is that of the check
+--   pack-told, unpack-told   4 for an exponent above 32,767, and for a set guard bit
+--   profile_told             the report beside a profile is that of the check
 use Prim.Native.Nat.{ℕ}
 use mathlib.Core.Path.{◌≡◌, refl, sym, ◌∙◌, ap}
 use mathlib.Core.Bool.{Bool, true, false, ◌&&◌, false≢true}

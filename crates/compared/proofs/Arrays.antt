@@ -1,12 +1,12 @@
 -- Arrays compared word by word with what they have to hold.
 --
---   followed-long                               words followed up to a length have that length
---   followed-word                               their word at a place
---   too_short                                   an array that is too short for the words is not the same
---   Agree                                       two arrays are the same up to a place: all depends on what is behind it
+--   followed-long                     words followed up to a length have that length
+--   followed-word                     their word at a place
+--   too_short                         an array that is too short for the words is not the same
+--   Agree                             two arrays are the same up to a place: all depends on what is behind it
 --   agree_none, agree_more, agree_all, differ   how a comparison starts, goes on, ends well, and ends
---   word_within, word_behind                    the word at a place in an array, and behind its end
---   lent-long, part-lent, part-long             the words of an array that is lent, and of a part of it
+--   word_within, word_behind          the word at a place in an array, and behind its end
+--   lent-long, part-lent, part-long   the words of an array that is lent, and of a part of it
 use Prim.Native.Nat.{ℕ, zero, suc, ◌+◌, ◌-◌, ◌<◌, ◌≤◌}
 use mathlib.Core.Path.{◌≡◌, refl, sym, ◌∙◌, ap}
 use mathlib.Core.Bool.{true, false, ◌&&◌, and-false}

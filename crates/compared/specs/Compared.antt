@@ -1,12 +1,12 @@
 -- Reports and arrays compared with what a row of the sheet says: what arrays hold when they are lent, and what has to be in them afterwards.
 --
 --   same_words, same_report, same_outcome   tests that words, reports and outcomes are the same
---   all_dirt n                              n words as they are lent, each of them `dirt`
---   AsLent n ws                             the array ws is such n words
---   rest_of number                          what follows the terms in an array after a reply: what was lent after 1 to 8, else 0
---   followed ws rest n                      the words ws, then one word up to a length of n
---   after says ws n                         an array of n words after a call that answers the report says and writes ws
---   said says ws vs n m k                   what such a call leaves in all: ws and vs in outputs of n and m words, and a work array of k words
+--   all_dirt n              n words as they are lent, each of them `dirt`
+--   AsLent n ws             the array ws is such n words
+--   rest_of number          what follows the terms in an array after a reply: what was lent after 1 to 8, else 0
+--   followed ws rest n      the words ws, then one word up to a length of n
+--   after says ws n         an array of n words after a call that answers the report says and writes ws
+--   said says ws vs n m k   what such a call leaves in all: ws and vs in outputs of n and m words, and a work array of k words
 use Rattle.std.specs.Prelude.{ℕ, ◌-◌, ◌≡◌, Bool, true, false, ◌&&◌, List, [], ◌∷◌, ◌++◌, eqb, ltb, replicate, length}
 use Rattle.refusals.specs.declared.report.Report.{Report}
 use Rattle.calls.specs.Outcomes.{Outcome, outcome}

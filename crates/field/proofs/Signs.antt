@@ -1,9 +1,9 @@
 -- Laws of signed numbers.
 -- `mag z` is n where z is n, and where z is −(n + 1).
 --
---   from_zero                               z is its `mag` from 0 on
---   mirrored                                −1 − z is it below 0
---   subtracted, negated                     c − p, and 0 − (p − c), where c is below p
+--   from_zero             z is its `mag` from 0 on
+--   mirrored              −1 − z is it below 0
+--   subtracted, negated   c − p, and 0 − (p − c), where c is below p
 --   residue_from_zero, residue_below_zero   the residue of z, by its sign
 use Prim.Native.Nat.{ℕ, zero, suc, ◌+◌, ◌-◌, ◌%◌, ◌<◌}
 use mathlib.Core.Path.{◌≡◌, refl, ◌∙◌, ap}

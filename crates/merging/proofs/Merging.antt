@@ -1,14 +1,14 @@
 -- Merging two inputs, one monomial a turn.
 --
---   some_key                                          where a record is left there is a key
---   signed_small                                      a signed coefficient is below p
---   greatest_left                                     what two heads at the greatest key are together
---   front_small                                       the coefficient of a record in front is below p
---   pick_most                                         a step chosen of two is at most 1
---   front_some                                        where a record is left, equal keys are those of two records
---   greatest_both, greatest_one                       what two records in front are together: of one key, and of two
+--   some_key                      where a record is left there is a key
+--   signed_small                  a signed coefficient is below p
+--   greatest_left                 what two heads at the greatest key are together
+--   front_small                   the coefficient of a record in front is below p
+--   pick_most                     a step chosen of two is at most 1
+--   front_some                    where a record is left, equal keys are those of two records
+--   greatest_both, greatest_one   what two records in front are together: of one key, and of two
 --   Merged, merge-starts, merge_skips, merge_writes   the loop: what is written, and what is unmerged, is the normal form
---   merge_full, merge-done                            its two ways out: a term is due and the room is full; nothing is unmerged
+--   merge_full, merge-done        its two ways out: a term is due and the room is full; nothing is unmerged
 use Prim.Native.Nat.{ℕ, ◌+◌, ◌-◌, ◌%◌, ◌<◌, ◌≤◌, max}
 use mathlib.Core.Path.{◌≡◌, refl, sym, ◌∙◌, ap, subst}
 use mathlib.Core.Bool.{Bool, true, false}

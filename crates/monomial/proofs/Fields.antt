@@ -1,22 +1,22 @@
 -- Laws of the fields of a word, for any width w and any number k of fields, by induction on the fields.
 --
---   Held w k m                                       a field holds each exponent of m, the guard bit perhaps used
---   fits_held, product_held, exponents_held          what fits is held, the product of two that fit is, and so are a word's exponents
---   fits_letters                                     what fits has no letter with an exponent over the largest
+--   Held w k m                       a field holds each exponent of m, the guard bit perhaps used
+--   fits_held, product_held, exponents_held   what fits is held, the product of two that fit is, and so are a word's exponents
+--   fits_letters                     what fits has no letter with an exponent over the largest
 --   fits-one, over-fits, divides-fits, factor_fits   1 fits; a quotient of what fits, and what divides it, fit
---   word_bound                                       the word of what is held has no bit outside the fields
---   exponents_word, word_exponents                   words and exponents give each other back
---   word_one, word_mul                               the word of 1 is 0, and the word of a product is the sum of the words
---   word_less                                        word order is the lexicographic order of the exponents
---   exponent_field, exponent-none                    one exponent by its field's place; 0 where there is no such letter
---   divides_letters                                  a divides b just where each letter's exponent in a is at most that in b
---   divides-mul, over-mul, divides-quotient          a divides b just where some q times a is b, and then q is `over b a`
---   joined, joined-word                              exponents shifted to their places and joined are the word
---   or_below, merged, merged-test                    one test for several exponents: all bits that are set in any of them
---   either-test                                      one test for the fields of two words
---   guards, guards-test                              the mask of the guard bits: none is set just where all exponents fit
---   guards_cover                                     a word that fits is at most the mask
---   borrow_test                                      a word with its guard bits set, less another: all guard bits stay just where the other divides it
+--   word_bound                       the word of what is held has no bit outside the fields
+--   exponents_word, word_exponents   words and exponents give each other back
+--   word_one, word_mul               the word of 1 is 0, and the word of a product is the sum of the words
+--   word_less                        word order is the lexicographic order of the exponents
+--   exponent_field, exponent-none    one exponent by its field's place; 0 where there is no such letter
+--   divides_letters                  a divides b just where each letter's exponent in a is at most that in b
+--   divides-mul, over-mul, divides-quotient   a divides b just where some q times a is b, and then q is `over b a`
+--   joined, joined-word              exponents shifted to their places and joined are the word
+--   or_below, merged, merged-test    one test for several exponents: all bits that are set in any of them
+--   either-test                      one test for the fields of two words
+--   guards, guards-test              the mask of the guard bits: none is set just where all exponents fit
+--   guards_cover                     a word that fits is at most the mask
+--   borrow_test                      a word with its guard bits set, less another: all guard bits stay just where the other divides it
 use Prim.Native.Nat.{ℕ, zero, suc, ◌+◌, ◌-◌, ◌*◌, ◌/◌, ◌%◌, ◌^◌, ◌≤◌, ◌<◌}
 use mathlib.Core.Path.{◌≡◌, refl, sym, ◌∙◌, ap}
 use mathlib.Core.Bool.{true, ◌&&◌, and-true}

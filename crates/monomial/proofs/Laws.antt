@@ -1,20 +1,20 @@
 -- Laws of monomial words, for any layout: order is `<` on words, the product is the sum, and the quotient the difference.
 --
---   read, write, fit, times, room                                 a word's exponents, the word of exponents, whether they fit, their product; words are below the room
+--   read, write, fit, times, room    a word's exponents, the word of exponents, whether they fit, their product; words are below the room
 --   monomial_below, monomial_fits, monomial_test, monomial_word   a monomial word is below the room and its exponents fit, no more
---                                                                 is asked of it, and its exponents give it back
---   word_monomial, word-read                                      exponents that fit have a monomial word, and it gives them back
---   less-word                                                     word order is the lexicographic order of the exponents
---   sum_below, sum-exponents, sum_monomial                        the fields of the sum of two monomial words are the sums of the fields; it is a monomial
---                                                                 word just where the product of the exponents fits
---   product-sum, product_monomials                                the product's word, where no exponent bursts, is the sum
---   divides_monomials, divides-exponents, divides_le              of the words of which the one divides the other
---   divides_iff                                                   m divides n just where m + q ≡ n for some monomial word q
---   quotient-difference                                           the quotient's word is the difference
---   sum-divides                                                   the sum of two monomial words divides a third just where the product of the exponents does, also where
---                                                                 the product does not fit
---   word_divides_lem                                              of words of exponents that fit, the one divides the other just where the exponents have a quotient
---   Coding, coding                                                the same as one record, for any kind and order of monomials; the layout's own
+--                                    is asked of it, and its exponents give it back
+--   word_monomial, word-read         exponents that fit have a monomial word, and it gives them back
+--   less-word                        word order is the lexicographic order of the exponents
+--   sum_below, sum-exponents, sum_monomial   the fields of the sum of two monomial words are the sums of the fields; it is a monomial
+--                                    word just where the product of the exponents fits
+--   product-sum, product_monomials   the product's word, where no exponent bursts, is the sum
+--   divides_monomials, divides-exponents, divides_le   of the words of which the one divides the other
+--   divides_iff                      m divides n just where m + q ≡ n for some monomial word q
+--   quotient-difference              the quotient's word is the difference
+--   sum-divides                      the sum of two monomial words divides a third just where the product of the exponents does, also where
+--                                    the product does not fit
+--   word_divides_lem                 of words of exponents that fit, the one divides the other just where the exponents have a quotient
+--   Coding, coding                   the same as one record, for any kind and order of monomials; the layout's own
 use Prim.Native.Nat.{ℕ, ◌+◌, ◌-◌, ◌*◌, ◌^◌, ◌≤◌, ◌<◌}
 use mathlib.Core.Path.{◌≡◌, refl, sym, ◌∙◌, ap}
 use mathlib.Core.Bool.{Bool, true, false, ◌&&◌}

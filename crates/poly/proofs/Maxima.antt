@@ -1,12 +1,12 @@
 -- Largest exponents, and what they bound.
 --
---   exponents_of_lem                                           a profile's exponents are the largest of its polynomial
+--   exponents_of_lem               a profile's exponents are the largest of its polynomial
 --   exponents_most, exponents_small, word_small, words_small   bounds of valid slices
---   every_letter                                               a bound of the four letters' exponents bounds all
---   letters_fit, smaller-fits                                  a monomial fits whose letters do, and one whose exponents are not above those of one that fits
---   maxima-exponent, maxima-fits                               the largest exponents as one monomial; of a valid slice it fits
---   under_maxima-fits                                          a product fits where the one with the largest exponents does
---   packed                                                     packing the exponents of a profile gives the word of the maxima
+--   every_letter                   a bound of the four letters' exponents bounds all
+--   letters_fit, smaller-fits      a monomial fits whose letters do, and one whose exponents are not above those of one that fits
+--   maxima-exponent, maxima-fits   the largest exponents as one monomial; of a valid slice it fits
+--   under_maxima-fits              a product fits where the one with the largest exponents does
+--   packed                         packing the exponents of a profile gives the word of the maxima
 use Prim.Native.Nat.{ℕ, ◌/◌, ◌^◌, ◌≤◌, ◌<◌, zero, suc}
 use mathlib.Core.Path.{◌≡◌, refl, ◌∙◌, ap}
 use mathlib.Core.Bool.{true}

@@ -1,25 +1,25 @@
 -- Readings of words: a slice as terms whose monomials are words, such terms as words, and both beside the polynomial meant.
 --
---   term_w s i                                                                                                record i, its monomial a word
---   flat f                                                                                                    the words of such terms
---   coded_poly l f                                                                                            a polynomial with the word of each monomial in its place
---   length-span, span-append, span-one_more                                                                   n records are n terms; records after records; one record more at the end
---   span_same                                                                                                 two slices with the same words have the same records
---   span-cons                                                                                                 the records of a slice behind one more record in front
---   length-flat, flat-append, records-flat                                                                    of the words of terms
---   span-flat, span-flat-append, flat-span, flat-records                                                      words and their records, there and back
---   span-set-after, span_store, span_stored                                                                   the records after a store: elsewhere, and at the end
---   span_all, all_span, span_falling, falling_span, span_reduced, reduced_span                                a property of every record, record by record
---   length_poly                                                                                               a slice has as many terms as records
---   flat_coded, terms_decoded, poly_decoded                                                                   a polynomial's words are those of its coded terms; a slice's terms are its records decoded
+--   term_w s i                      record i, its monomial a word
+--   flat f                          the words of such terms
+--   coded_poly l f                  a polynomial with the word of each monomial in its place
+--   length-span, span-append, span-one_more   n records are n terms; records after records; one record more at the end
+--   span_same                       two slices with the same words have the same records
+--   span-cons                       the records of a slice behind one more record in front
+--   length-flat, flat-append, records-flat   of the words of terms
+--   span-flat, span-flat-append, flat-span, flat-records   words and their records, there and back
+--   span-set-after, span_store, span_stored   the records after a store: elsewhere, and at the end
+--   span_all, all_span, span_falling, falling_span, span_reduced, reduced_span   a property of every record, record by record
+--   length_poly                     a slice has as many terms as records
+--   flat_coded, terms_decoded, poly_decoded   a polynomial's words are those of its coded terms; a slice's terms are its records decoded
 --   decoded_coded, coded_decoded, length_coded, decoded_append, coded_append, coded_monomials, decoded_fits   coding undoes decoding
---   coded_normal, normal_coded                                                                                a polynomial that fits is normal just where its coded terms are
---   poly_words, poly_words-append                                                                             the polynomial of a polynomial's words, and with more words after them
---   valid_span, valid_flat                                                                                    a slice is Valid whose records are monomials and normal
---   valid_words                                                                                               the words of a normal polynomial that fits are Valid
---   span_monomials, span_normal, valid_fits, valid_coded, valid_normal, valid_words_of                        of a Valid slice, the other way
---   measure-exponents                                                                                         the profile is of the largest weights
---   weight_within                                                                                             every term weighs at most the largest weight, as each exponent is at most the letter's largest
+--   coded_normal, normal_coded      a polynomial that fits is normal just where its coded terms are
+--   poly_words, poly_words-append   the polynomial of a polynomial's words, and with more words after them
+--   valid_span, valid_flat          a slice is Valid whose records are monomials and normal
+--   valid_words                     the words of a normal polynomial that fits are Valid
+--   span_monomials, span_normal, valid_fits, valid_coded, valid_normal, valid_words_of   of a Valid slice, the other way
+--   measure-exponents               the profile is of the largest weights
+--   weight_within                   every term weighs at most the largest weight, as each exponent is at most the letter's largest
 use Prim.Native.Nat.{ℕ, zero, suc, ◌+◌, ◌-◌, ◌*◌, ◌<◌, ◌≤◌}
 use mathlib.Core.Path.{◌≡◌, refl, sym, ◌∙◌, ap, subst}
 use mathlib.Core.Bool.{true}

@@ -1,8 +1,8 @@
 -- The product, one law for each way out.
 --
---   product_coded                                     the words of the product's normal form, where no letter bursts
---   ends_burst, ends-filled                           a product that bursts; one whose terms were counted into the room
---   factors_exchanged                                 which factor is the first makes no difference
+--   product_coded             the words of the product's normal form, where no letter bursts
+--   ends_burst, ends-filled   a product that bursts; one whose terms were counted into the room
+--   factors_exchanged         which factor is the first makes no difference
 --   product-refused, product_goes_on, work_suffices   the call with a refusal due, and with none
 use Prim.Native.Nat.{ℕ, ◌*◌, ◌<◌, ◌≤◌, min}
 use mathlib.Core.Path.{◌≡◌, refl, sym, ◌∙◌, ap}

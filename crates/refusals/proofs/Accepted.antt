@@ -1,16 +1,16 @@
 -- Slices that pass: what the rules 1 to 8 ask, and what a report that refuses nothing says of the slices lent.
 --
---   Shaped s                                                              a lent slice of even length that is within its number of terms
---   Input p s                                                             a lent slice that is Valid and within its number of terms
---   Each P slices                                                         every one of some lent slices has the property P
---   Accepted p inputs outputs                                             what the rules 1 to 6 ask of a call together
+--   Shaped s                       a lent slice of even length that is within its number of terms
+--   Input p s                      a lent slice that is Valid and within its number of terms
+--   Each P slices                  every one of some lent slices has the property P
+--   Accepted p inputs outputs      what the rules 1 to 6 ask of a call together
 --   unless_passed, passed_unless, unless_tells, unless-told, unless_own   of a rule that tests a slice as a whole
---   found_passed, passed_found, found_tells, found-told, found_own        of a rule that tests each term
---   NAME_passed                                                           the report of the rule NAME has the number 0, so what it asks holds
---   passed_NAME                                                           what the rule NAME asks holds, so it answers `none`
---   NAME_own                                                              the report of the rule NAME has no number but 0 and its own
---   shapes_passed, passed_shapes                                          the same of 2 and 3 over some lent slices
---   refusals_accepted, accepted_refusals                                  the same of 1 to 6 over a call
+--   found_passed, passed_found, found_tells, found-told, found_own   of a rule that tests each term
+--   NAME_passed                    the report of the rule NAME has the number 0, so what it asks holds
+--   passed_NAME                    what the rule NAME asks holds, so it answers `none`
+--   NAME_own                       the report of the rule NAME has no number but 0 and its own
+--   shapes_passed, passed_shapes   the same of 2 and 3 over some lent slices
+--   refusals_accepted, accepted_refusals   the same of 1 to 6 over a call
 use Prim.Native.Nat.{ℕ, zero, suc, ◌*◌, ◌%◌, ◌<◌, ◌≤◌}
 use mathlib.Core.Path.{◌≡◌, refl, sym, ◌∙◌, ap}
 use mathlib.Core.Bool.{Bool, true, false, not, ◌||◌}

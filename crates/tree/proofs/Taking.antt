@@ -1,9 +1,9 @@
 -- One product leaves the tree.
 --
---   weigh ψ f, total-weigh, count-weigh          sums over the terms of f; totals, counts and lengths are such sums
---   awaited-less                                 where one row's first product goes, every sum over what is left falls by that product's part
---   Hand                                         the product in hand: its row, its column, and its key
---   hand                                         the record to be taken is the product of its own row and column
+--   weigh ψ f, total-weigh, count-weigh   sums over the terms of f; totals, counts and lengths are such sums
+--   awaited-less   where one row's first product goes, every sum over what is left falls by that product's part
+--   Hand           the product in hand: its row, its column, and its key
+--   hand           the record to be taken is the product of its own row and column
 --   Taking, take-starts, take-steps, take-ends   the loop that takes all products of one key
 use Prim.Native.Nat.{ℕ, zero, suc, ◌+◌, ◌-◌, ◌*◌, ◌%◌, ◌<◌, ◌≤◌}
 use mathlib.Core.Path.{◌≡◌, refl, sym, ◌∙◌, ap, subst}

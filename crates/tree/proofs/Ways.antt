@@ -1,16 +1,16 @@
 -- The way from a record to the root, and trees that hold but on such a way.
 --
---   half_steps                                        to halve once more is to halve, and then the rest of the way
---   above_parent, above_more, above_cases             what is above a record: the record above it, and what is above that
---   above_less                                        it has a lower place
---   beside, beside_half                               the other child of the record above
---   settled_leaf                                      a leaf may be written
---   settled_up                                        one step of a climb: the record above becomes the greater child
---   settled_beside                                    two children of one record have the same way
---   settled_root, root_settled                        at the root the whole tree holds
---   tree_greatest                                     no record has a greater key than the root
+--   half_steps                   to halve once more is to halve, and then the rest of the way
+--   above_parent, above_more, above_cases   what is above a record: the record above it, and what is above that
+--   above_less                   it has a lower place
+--   beside, beside_half          the other child of the record above
+--   settled_leaf                 a leaf may be written
+--   settled_up                   one step of a climb: the record above becomes the greater child
+--   settled_beside               two children of one record have the same way
+--   settled_root, root_settled   at the root the whole tree holds
+--   tree_greatest                no record has a greater key than the root
 --   Climbing, climb-starts, climb-steps, climb-ends   a climb, from the leaf written to its end
---   tree_leaf                                         a record of a tree is a copy of a leaf below it
+--   tree_leaf                    a record of a tree is a copy of a leaf below it
 use Prim.Native.Nat.{ℕ, zero, suc, ◌+◌, ◌*◌, ◌/◌, ◌%◌, ◌^◌, ◌<◌, ◌≤◌}
 use mathlib.Core.Path.{◌≡◌, refl, sym, ◌∙◌, ap, subst}
 use mathlib.Core.List.{List}

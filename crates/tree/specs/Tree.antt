@@ -4,15 +4,15 @@
 -- product's word + 1, or 0 where nothing waits; the tag is row · 2^32 + column. With n rows the leaves are the records n to
 -- 2n − 1, and every record from 1 to n − 1 is a copy of the greater of its two children, the records 2j and 2j + 1.
 --
---   tag_at w j                                                      the tag of record j; its key is `word_at w j`
---   Copy w i j                                                      record i is a copy of record j
---   Holds w j                                                       record j is a copy of a child, and neither child's key is greater
---   Tree n w                                                        every record from 1 to n − 1 holds
---   Waits rows cols w i                                             the leaf of row i is empty, or has its own row, a column that is there, and the key of their product
---   pending, awaited                                                the products for which row i waits; those for which n rows from row i on wait
---   Sides p rows cols                                               words below 2^63 and numbers below p
---   Live                                                            all that the tree's functions ask for
---   Above, Settled                                                  the way from a record to the root; a tree that holds but on such a way
+--   tag_at w j            the tag of record j; its key is `word_at w j`
+--   Copy w i j            record i is a copy of record j
+--   Holds w j             record j is a copy of a child, and neither child's key is greater
+--   Tree n w              every record from 1 to n − 1 holds
+--   Waits rows cols w i   the leaf of row i is empty, or has its own row, a column that is there, and the key of their product
+--   pending, awaited      the products for which row i waits; those for which n rows from row i on wait
+--   Sides p rows cols     words below 2^63 and numbers below p
+--   Live                  all that the tree's functions ask for
+--   Above, Settled        the way from a record to the root; a tree that holds but on such a way
 --   Greater, Next, Climbed, Taken, Added, Planted, Built, Started   what the functions promise
 use Rattle.std.specs.Prelude.{ℕ, zero, suc, ◌+◌, ◌-◌, ◌*◌, ◌/◌, ◌%◌, ◌^◌, ◌<◌, ◌≤◌, ◌≡◌, List, [], ◌∷◌, ◌++◌, ◌⊎◌, length, get_or}
 use Rattle.algebra.specs.Monomials.{Numbers}

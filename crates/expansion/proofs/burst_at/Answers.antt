@@ -21,7 +21,8 @@ loop-v-init c = (omega arith, refl)
 abbrev tried : At-loop-v → ℕ → Bool
 tried c = bursts (poly_of base c.args.f.now) (poly_of base c.args.g.now)
 
-test : (c : In-loop-v) → ltb 32767 (get_or c.measure.result.exponents c.loop-v.v 0 + get_or c.measure-2.result.exponents c.loop-v.v 0) ≡ tried (goal.at.In-loop-v c).At-loop-v c.loop-v.v
+test : (c : In-loop-v) → ltb 32767 (get_or c.measure.result.exponents c.loop-v.v 0 + get_or c.measure-2.result.exponents c.loop-v.v 0) ≡ tried
+    (goal.at.In-loop-v c).At-loop-v c.loop-v.v
 test c = bursts-test _ _ c.measure.ensures c.measure-2.ensures _ c.loop-v-test.true
 
 pub offset_bounds-a-v : goal.offset_bounds-a-v
@@ -43,7 +44,8 @@ overflow_add-a c =
 
 pub returns-then-a-v-gt-LARGEST : goal.returns-then-a-v-gt-LARGEST
 returns-then-a-v-gt-LARGEST c =
-    sym (first-stop (tried (goal.at.returns-then-a-v-gt-LARGEST c).At-loop-v) c.loop-v.v 4 c.loop-v-test.true (sym (test (goal.at.returns-then-a-v-gt-LARGEST c).In-loop-v) ∙ lt-ltb 32767 _ c.if-a-v-gt-LARGEST.true)) ∙ c.loop-v.invariant.1
+    sym (first-stop (tried (goal.at.returns-then-a-v-gt-LARGEST c).At-loop-v) c.loop-v.v 4 c.loop-v-test.true
+    (sym (test (goal.at.returns-then-a-v-gt-LARGEST c).In-loop-v) ∙ lt-ltb 32767 _ c.if-a-v-gt-LARGEST.true)) ∙ c.loop-v.invariant.1
 
 pub overflow_add-v : goal.overflow_add-v
 overflow_add-v c = omega (arith, c.loop-v-test.true)
@@ -54,7 +56,8 @@ loop-v-smaller c = omega (arith, c.loop-v-test.true)
 pub loop-v-preserved : goal.loop-v-preserved
 loop-v-preserved c = (
   omega (arith, c.loop-v-test.true),
-  sym (first_up (tried (goal.at.loop-v-preserved c).At-loop-v) c.loop-v.v 4 c.loop-v-test.true (sym (test (goal.at.loop-v-preserved c).In-loop-v) ∙ le-ltb 32767 _ c.if-a-v-gt-LARGEST.false)) ∙ c.loop-v.invariant.1,
+  sym (first_up (tried (goal.at.loop-v-preserved c).At-loop-v) c.loop-v.v 4 c.loop-v-test.true
+      (sym (test (goal.at.loop-v-preserved c).In-loop-v) ∙ le-ltb 32767 _ c.if-a-v-gt-LARGEST.false)) ∙ c.loop-v.invariant.1,
 )
 
 pub returns : goal.returns

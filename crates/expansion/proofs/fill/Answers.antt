@@ -40,7 +40,8 @@ shape_of-work-then-n-room c = c.take-c.ensures.as_long ∙ c.loop-work.invariant
 
 pub returns-then-n-room : goal.returns-then-n-room
 returns-then-n-room c =
-    fill_full _ c.requires.within.0 _ _ _ _ _ _ _ _ c.loop-work.invariant.2 (step (goal.at.returns-then-n-room c).After-slice_known-in-loop-work-3-1) c.if-c-ne0.true c.if-n-room.true
+    fill_full _ c.requires.within.0 _ _ _ _ _ _ _ _ c.loop-work.invariant.2 (step (goal.at.returns-then-n-room c).After-slice_known-in-loop-work-3-1)
+    c.if-c-ne0.true c.if-n-room.true
 
 pub overflow_sub-k : goal.overflow_sub-k
 overflow_sub-k c = omega (arith, c.loop-work-test.true)
@@ -57,7 +58,9 @@ loop-work-preserved-then-c-ne0 c =
     let T = c.take-c.ensures in (
       T.live,
       T.as_long ∙ c.loop-work.invariant.1,
-      fill_writes _ c.requires.within.0 _ _ _ _ _ _ _ _ c.loop-work.invariant.2 (step (goal.at.loop-work-preserved-then-c-ne0 c).After-slice_known-in-loop-work-3-1) _ c.put_term.ensures c.if-c-ne0.true (omega (arith, c.loop-work.invariant.2.within, c.if-n-room.false)),
+      fill_writes _ c.requires.within.0 _ _ _ _ _ _ _ _ c.loop-work.invariant.2
+          (step (goal.at.loop-work-preserved-then-c-ne0 c).After-slice_known-in-loop-work-3-1) _ c.put_term.ensures c.if-c-ne0.true
+          (omega (arith, c.loop-work.invariant.2.within, c.if-n-room.false)),
     )
 
 pub loop-work-smaller : goal.loop-work-smaller
@@ -66,8 +69,12 @@ loop-work-smaller c =
 
 pub loop-work-preserved : goal.loop-work-preserved
 loop-work-preserved c =
-    let T = c.take-c.ensures in
-    (T.live, T.as_long ∙ c.loop-work.invariant.1, fill_skips _ c.requires.within.0 _ _ _ _ _ _ _ _ c.loop-work.invariant.2 (step (goal.at.loop-work-preserved c).After-slice_known-in-loop-work-3-1) c.if-c-ne0.false)
+    let T = c.take-c.ensures in (
+      T.live,
+      T.as_long ∙ c.loop-work.invariant.1,
+      fill_skips _ c.requires.within.0 _ _ _ _ _ _ _ _ c.loop-work.invariant.2
+          (step (goal.at.loop-work-preserved c).After-slice_known-in-loop-work-3-1) c.if-c-ne0.false,
+    )
 
 pub shape_of-room : goal.shape_of-room
 shape_of-room c = c.loop-work.invariant.2.as_long
@@ -78,4 +85,5 @@ shape_of-work c = c.loop-work.invariant.1
 pub returns : goal.returns
 returns c =
     let s = c.args in
-    fill-ends _ c.requires.within.0 _ _ _ _ _ c.loop-work.invariant.2 (awaited-none s.rows.now s.cols.now c.loop-work.work c.loop-work.invariant.0 c.loop-work-test.false)
+    fill-ends _ c.requires.within.0 _ _ _ _ _ c.loop-work.invariant.2
+    (awaited-none s.rows.now s.cols.now c.loop-work.work c.loop-work.invariant.0 c.loop-work-test.false)

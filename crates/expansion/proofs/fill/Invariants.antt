@@ -9,7 +9,8 @@ use Rattle.expansion.proofs.fill.Given as goal
 
 abbrev pub invariant-loop-work : goal.invariant-loop-work
 invariant-loop-work l =
-    (Live l.rows l.cols l.work) × (length l.work ≡ length l.initial.work) × Filling l.p (waiting l.rows l.cols l.initial.work) (waiting l.rows l.cols l.work) l.initial.room l.room l.n
+    (Live l.rows l.cols l.work) × (length l.work ≡ length l.initial.work) × Filling l.p (waiting l.rows l.cols l.initial.work)
+    (waiting l.rows l.cols l.work) l.initial.room l.room l.n
 
 abbrev pub decreases-loop-work : goal.decreases-loop-work
 decreases-loop-work l = word_at l.work 1

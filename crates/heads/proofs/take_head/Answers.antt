@@ -32,7 +32,8 @@ add_mod-requires c = (
 
 pub returns : goal.returns
 returns c =
-    headed c.requires.within.0 c.requires.valid.0 c.requires.valid.1 c.requires.live.0 c.requires.within.4 c.requires.within.2 c.requires.within.3 c.requires.live.1
+    headed c.requires.within.0 c.requires.valid.0 c.requires.valid.1 c.requires.live.0 c.requires.within.4 c.requires.within.2 c.requires.within.3
+    c.requires.live.1
     c.take_at.ensures.0
     c.head_at-h.ensures
     c.take_at.ensures.1

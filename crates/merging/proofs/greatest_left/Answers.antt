@@ -29,7 +29,8 @@ pub add_mod-requires : goal.add_mod-requires
 add_mod-requires c = (
   c.requires.within.1,
   front_small _ c.args.a.now c.args.i c.requires.valid.0 _ c.front_at-x.ensures c.requires.within.0,
-  subst (λ n. n < c.args.p) (sym c.signed_coef-d.ensures) (signed_small _ c.args.minus _ (signed_coef-d-requires (goal.at.add_mod-requires c).After-front_at-y)),
+  subst (λ n. n < c.args.p) (sym c.signed_coef-d.ensures)
+      (signed_small _ c.args.minus _ (signed_coef-d-requires (goal.at.add_mod-requires c).After-front_at-y)),
 )
 
 pub returns-then-x-y : goal.returns-then-x-y

@@ -37,15 +37,20 @@ work c =
 pub returns-then-due-ne0 : goal.returns-then-due-ne0
 returns-then-due-ne0 c =
     let s = c.args in
-    product-refused _ s.a.now s.b.now s.room.now s.work.now _ _ _ (words (goal.at.returns-then-due-ne0 c).After-first-due) (due (goal.at.returns-then-due-ne0 c).After-first-due) (work (goal.at.returns-then-due-ne0 c).After-first-due) c.if-due-ne0.true
+    product-refused _ s.a.now s.b.now s.room.now s.work.now _ _ _ (words (goal.at.returns-then-due-ne0 c).After-first-due)
+    (due (goal.at.returns-then-due-ne0 c).After-first-due) (work (goal.at.returns-then-due-ne0 c).After-first-due) c.if-due-ne0.true
 
 -- the factors are good, and the work is long enough for the shorter one
 good : (c : Else-due-ne0) → let s = c.args in
     Good s.p s.a.now s.b.now × (4 * min (records s.a.now) (records s.b.now) ≤ length s.work.now)
 good c =
     let s = c.args in
-    let g = rules_good s.p s.a.now s.b.now (lent 3 s.room.now room_terms ∷ []) _ c.or_else-last.result (due (goal.at.Else-due-ne0 c).After-first-due) c.if-due-ne0.false in
-    (g.0, work_suffices _ s.a.now s.b.now s.room.now s.work.now _ _ _ (words (goal.at.Else-due-ne0 c).After-first-due) (due (goal.at.Else-due-ne0 c).After-first-due) (work (goal.at.Else-due-ne0 c).After-first-due) g.2)
+    let g = rules_good s.p s.a.now s.b.now (lent 3 s.room.now room_terms ∷ []) _ c.or_else-last.result (due (goal.at.Else-due-ne0 c).After-first-due)
+    c.if-due-ne0.false in (
+      g.0,
+      work_suffices _ s.a.now s.b.now s.room.now s.work.now _ _ _ (words (goal.at.Else-due-ne0 c).After-first-due)
+          (due (goal.at.Else-due-ne0 c).After-first-due) (work (goal.at.Else-due-ne0 c).After-first-due) g.2,
+    )
 
 pub multiply-requires : goal.multiply-requires
 multiply-requires c =
@@ -68,10 +73,12 @@ multiply-requires-else-a-b c =
 pub returns-then-a-b : goal.returns-then-a-b
 returns-then-a-b c =
     let s = c.args in
-    product_goes_on _ s.a.now s.b.now s.room.now s.work.now _ _ _ (words (goal.at.returns-then-a-b c).After-first-due) (due (goal.at.returns-then-a-b c).After-first-due) (work (goal.at.returns-then-a-b c).After-first-due) _ c.if-due-ne0.false c.multiply.ensures
+    product_goes_on _ s.a.now s.b.now s.room.now s.work.now _ _ _ (words (goal.at.returns-then-a-b c).After-first-due)
+    (due (goal.at.returns-then-a-b c).After-first-due) (work (goal.at.returns-then-a-b c).After-first-due) _ c.if-due-ne0.false c.multiply.ensures
 
 pub returns-else-a-b : goal.returns-else-a-b
 returns-else-a-b c =
     let s = c.args in
-    product_goes_on _ s.a.now s.b.now s.room.now s.work.now _ _ _ (words (goal.at.returns-else-a-b c).After-first-due) (due (goal.at.returns-else-a-b c).After-first-due) (work (goal.at.returns-else-a-b c).After-first-due) _ c.if-due-ne0.false
+    product_goes_on _ s.a.now s.b.now s.room.now s.work.now _ _ _ (words (goal.at.returns-else-a-b c).After-first-due)
+    (due (goal.at.returns-else-a-b c).After-first-due) (work (goal.at.returns-else-a-b c).After-first-due) _ c.if-due-ne0.false
     (c.multiply-else-a-b.ensures ∙ factors_exchanged _ (good (goal.at.returns-else-a-b c).Else-due-ne0).0.positive s.b.now s.a.now s.room.now s.work.now)

@@ -25,11 +25,16 @@ returns-then-h-eq0 c =
 
 pub overflow_sub-word : goal.overflow_sub-word
 overflow_sub-word c =
-    omega (arith, quotient-word (at_head (c.requires.head, (c.requires.ready, c.requires.walking)) c.take_head-h.ensures) c.if-h-eq0.false (lead-divides (goal.at.overflow_sub-word c).Then-divides))
+    omega (
+      arith,
+      quotient-word (at_head (c.requires.head, (c.requires.ready, c.requires.walking)) c.take_head-h.ensures) c.if-h-eq0.false
+          (lead-divides (goal.at.overflow_sub-word c).Then-divides),
+    )
 
 pub judge_quotient-requires : goal.judge_quotient-requires
 judge_quotient-requires c = (
-  (quotient-word (at_head (c.requires.head, (c.requires.ready, c.requires.walking)) c.take_head-h.ensures) c.if-h-eq0.false (lead-divides (goal.at.judge_quotient-requires c).Then-divides)).0,
+  (quotient-word (at_head (c.requires.head, (c.requires.ready, c.requires.walking)) c.take_head-h.ensures) c.if-h-eq0.false
+      (lead-divides (goal.at.judge_quotient-requires c).Then-divides)).0,
   divisor_monomial _ _ _ _ c.requires.ready,
 )
 
@@ -39,11 +44,12 @@ mul_mod-requires c =
     (c.requires.ready.positive, small.0, small.1)
 
 pub put_row-requires : goal.put_row-requires
-put_row-requires c = let asked = row_asked (at_head (c.requires.head, (c.requires.ready, c.requires.walking)) c.take_head-h.ensures) c.if-h-eq0.false (lead-divides (goal.at.put_row-requires c).Then-divides) (sym c.judge_quotient.ensures ∙ c.if-t-eq0.true) in record {
-  within = asked.0;
-  vacant = asked.1.0;
-  live = asked.1.1;
-}
+put_row-requires c = let asked = row_asked (at_head (c.requires.head, (c.requires.ready, c.requires.walking)) c.take_head-h.ensures) c.if-h-eq0.false
+    (lead-divides (goal.at.put_row-requires c).Then-divides) (sym c.judge_quotient.ensures ∙ c.if-t-eq0.true) in record {
+      within = asked.0;
+      vacant = asked.1.0;
+      live = asked.1.1;
+    }
 
 pub overflow_add-t : goal.overflow_add-t
 overflow_add-t c =
@@ -52,7 +58,8 @@ overflow_add-t c =
 
 pub returns-then-t-eq0 : goal.returns-then-t-eq0
 returns-then-t-eq0 c =
-    step-divides (at_head (c.requires.head, (c.requires.ready, c.requires.walking)) c.take_head-h.ensures) c.if-h-eq0.false (lead-divides (goal.at.returns-then-t-eq0 c).Then-divides)
+    step-divides (at_head (c.requires.head, (c.requires.ready, c.requires.walking)) c.take_head-h.ensures) c.if-h-eq0.false
+    (lead-divides (goal.at.returns-then-t-eq0 c).Then-divides)
     (sym c.judge_quotient.ensures ∙ c.if-t-eq0.true)
     c.mul_mod.ensures
     c.put_row.ensures
@@ -61,11 +68,13 @@ returns-then-t-eq0 c =
 
 pub returns-else-t-eq0 : goal.returns-else-t-eq0
 returns-else-t-eq0 c =
-    step_stops_quotient (at_head (c.requires.head, (c.requires.ready, c.requires.walking)) c.take_head-h.ensures) c.if-h-eq0.false (lead-divides (goal.at.returns-else-t-eq0 c).Then-divides) _ c.judge_quotient.ensures c.if-t-eq0.false
+    step_stops_quotient (at_head (c.requires.head, (c.requires.ready, c.requires.walking)) c.take_head-h.ensures) c.if-h-eq0.false
+    (lead-divides (goal.at.returns-else-t-eq0 c).Then-divides) _ c.judge_quotient.ensures c.if-t-eq0.false
 
 pub put_term-requires : goal.put_term-requires
 put_term-requires c =
-    remainder_asked (at_head (c.requires.head, (c.requires.ready, c.requires.walking)) c.take_head-h.ensures) c.if-h-eq0.false (lead-not (goal.at.put_term-requires c).Else-divides) (sym c.judge_remainder.ensures ∙ c.if-t-eq0-2.true)
+    remainder_asked (at_head (c.requires.head, (c.requires.ready, c.requires.walking)) c.take_head-h.ensures) c.if-h-eq0.false
+    (lead-not (goal.at.put_term-requires c).Else-divides) (sym c.judge_remainder.ensures ∙ c.if-t-eq0-2.true)
 
 pub overflow_add-t-then-t-eq0-2 : goal.overflow_add-t-then-t-eq0-2
 overflow_add-t-then-t-eq0-2 c =
@@ -77,7 +86,8 @@ overflow_add-t-then-t-eq0-2 c =
 
 pub returns-then-t-eq0-2 : goal.returns-then-t-eq0-2
 returns-then-t-eq0-2 c =
-    step_moves (at_head (c.requires.head, (c.requires.ready, c.requires.walking)) c.take_head-h.ensures) c.if-h-eq0.false (lead-not (goal.at.returns-then-t-eq0-2 c).Else-divides)
+    step_moves (at_head (c.requires.head, (c.requires.ready, c.requires.walking)) c.take_head-h.ensures) c.if-h-eq0.false
+    (lead-not (goal.at.returns-then-t-eq0-2 c).Else-divides)
     (sym c.judge_remainder.ensures ∙ c.if-t-eq0-2.true)
     c.put_term.ensures
     _
@@ -85,4 +95,5 @@ returns-then-t-eq0-2 c =
 
 pub returns-else-t-eq0-2 : goal.returns-else-t-eq0-2
 returns-else-t-eq0-2 c =
-    step_stops_remainder (at_head (c.requires.head, (c.requires.ready, c.requires.walking)) c.take_head-h.ensures) c.if-h-eq0.false (lead-not (goal.at.returns-else-t-eq0-2 c).Else-divides) _ c.judge_remainder.ensures c.if-t-eq0-2.false
+    step_stops_remainder (at_head (c.requires.head, (c.requires.ready, c.requires.walking)) c.take_head-h.ensures) c.if-h-eq0.false
+    (lead-not (goal.at.returns-else-t-eq0-2 c).Else-divides) _ c.judge_remainder.ensures c.if-t-eq0-2.false

@@ -12,4 +12,5 @@ climb-requires c = record {
 
 pub returns : goal.returns
 returns c =
-    adds _ _ _ _ _ _ c.requires.within.0 c.requires.within.1 c.requires.within.2 c.requires.within.3 c.requires.vacant.0 c.requires.vacant.1 c.requires.vacant.2 c.requires.live _ _ c.climb.ensures
+    adds _ _ _ _ _ _ c.requires.within.0 c.requires.within.1 c.requires.within.2 c.requires.within.3 c.requires.vacant.0 c.requires.vacant.1
+    c.requires.vacant.2 c.requires.live _ _ c.climb.ensures

@@ -61,4 +61,5 @@ shape_of-work c = c.loop-at.invariant.as_long ∙ simp length-set
 pub returns : goal.returns
 returns c =
     let l = c.loop-at in
-    climb-ends _ _ _ _ _ _ _ _ _ _ _ c.requires.within.0 c.requires.within.1 c.requires.within.2 l.invariant l.invariant.from l.invariant.within l.invariant.settled (inl (omega arith))
+    climb-ends _ _ _ _ _ _ _ _ _ _ _ c.requires.within.0 c.requires.within.1 c.requires.within.2 l.invariant l.invariant.from l.invariant.within
+    l.invariant.settled (inl (omega arith))

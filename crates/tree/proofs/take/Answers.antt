@@ -93,7 +93,8 @@ loop-work-smaller c =
     let rows = c.args.rows.now in
     let cols = c.args.cols.now in
     let gone =
-    taken rows cols _ c.requires.sides _ _ _ _ _ c.requires.within.2 (in-hand (goal.at.loop-work-smaller c).In-loop-work) _ c.after-next.ensures c.climb-at.ensures
+    taken rows cols _ c.requires.sides _ _ _ _ _ c.requires.within.2 (in-hand (goal.at.loop-work-smaller c).In-loop-work) _ c.after-next.ensures
+    c.climb-at.ensures
     (λ u. 1) in
     omega (
       arith,
@@ -104,7 +105,8 @@ loop-work-smaller c =
 
 pub loop-work-preserved : goal.loop-work-preserved
 loop-work-preserved c =
-    take-steps _ _ _ _ _ _ _ _ _ _ _ _ c.requires.within.0 c.requires.within.2 c.requires.sides c.loop-work.invariant (in-hand (goal.at.loop-work-preserved c).In-loop-work) c.after-next.ensures
+    take-steps _ _ _ _ _ _ _ _ _ _ _ _ c.requires.within.0 c.requires.within.2 c.requires.sides c.loop-work.invariant
+    (in-hand (goal.at.loop-work-preserved c).In-loop-work) c.after-next.ensures
     c.climb-at.ensures
 
 pub shape_of-work : goal.shape_of-work

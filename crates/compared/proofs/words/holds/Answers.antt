@@ -42,11 +42,17 @@ loop-i-init c = agree_none _ _
 
 pub returns-then-s-i : goal.returns-then-s-i
 returns-then-s-i c =
-    differ (S (goal.at.returns-then-s-i c).After-word_at) (E (goal.at.returns-then-s-i c).After-word_at) (I (goal.at.returns-then-s-i c).After-word_at) (inside (goal.at.returns-then-s-i c).After-word_at) (within (goal.at.returns-then-s-i c).After-word_at) (λ e. c.if-s-i.true (e ∙ word (goal.at.returns-then-s-i c).After-word_at)) c.loop-i.invariant
+    differ (S (goal.at.returns-then-s-i c).After-word_at) (E (goal.at.returns-then-s-i c).After-word_at)
+    (I (goal.at.returns-then-s-i c).After-word_at) (inside (goal.at.returns-then-s-i c).After-word_at)
+    (within (goal.at.returns-then-s-i c).After-word_at) (λ e. c.if-s-i.true (e ∙ word (goal.at.returns-then-s-i c).After-word_at))
+    c.loop-i.invariant
 
 pub loop-i-preserved : goal.loop-i-preserved
 loop-i-preserved c =
-    agree_more (S (goal.at.loop-i-preserved c).After-word_at) (E (goal.at.loop-i-preserved c).After-word_at) (I (goal.at.loop-i-preserved c).After-word_at) (inside (goal.at.loop-i-preserved c).After-word_at) (within (goal.at.loop-i-preserved c).After-word_at) (c.if-s-i.false ∙ sym (word (goal.at.loop-i-preserved c).After-word_at)) c.loop-i.invariant
+    agree_more (S (goal.at.loop-i-preserved c).After-word_at) (E (goal.at.loop-i-preserved c).After-word_at)
+    (I (goal.at.loop-i-preserved c).After-word_at) (inside (goal.at.loop-i-preserved c).After-word_at)
+    (within (goal.at.loop-i-preserved c).After-word_at) (c.if-s-i.false ∙ sym (word (goal.at.loop-i-preserved c).After-word_at))
+    c.loop-i.invariant
 
 pub returns : goal.returns
 returns c =

@@ -38,7 +38,8 @@ returns-then-due-ne0 c =
 pub divide_good-requires : goal.divide_good-requires
 divide_good-requires c =
     let a = c.args in
-    let W = (rules_walkable a.p a.f.now a.g.now a.q.now a.work.now (lent 4 a.r.now room_terms ∷ []) (told (goal.at.divide_good-requires c).After-first-due) c.if-due-ne0.false).0 in
+    let W = (rules_walkable a.p a.f.now a.g.now a.q.now a.work.now (lent 4 a.r.now room_terms ∷ [])
+    (told (goal.at.divide_good-requires c).After-first-due) c.if-due-ne0.false).0 in
     let G = W.good in record {
       inputs = (G.prime, G.within, G.first, G.second, W.some, G.second_short);
       rooms = (W.room_short, W.long);

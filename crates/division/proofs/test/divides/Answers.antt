@@ -27,7 +27,8 @@ pub returns-then-due-ne0 : goal.returns-then-due-ne0
 unfolding test_of
 returns-then-due-ne0 c =
     let a = c.args in
-    refused_tells (test_rules a.p a.f.now a.g.now a.q.now a.work.now) c.first-due.result (told (goal.at.returns-then-due-ne0 c).After-first-due) a.q.now [] a.work.now
+    refused_tells (test_rules a.p a.f.now a.g.now a.q.now a.work.now) c.first-due.result (told (goal.at.returns-then-due-ne0 c).After-first-due)
+    a.q.now [] a.work.now
     (tested a.p a.f.now a.g.now a.q.now a.work.now)
     c.if-due-ne0.true
 

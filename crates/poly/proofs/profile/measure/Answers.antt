@@ -97,6 +97,7 @@ returns c =
     λ w. ap (λ x. largest w (terms base s x (records s - x))) z ∙ ap (λ x. largest w (terms base s 0 x)) (sub-zero (records s)) in
     λ d. record {
       terms = records s;
-      exponents = (l.invariant.1 ∙ all (exponent 4 0)) d ∷ (l.invariant.2 ∙ all (exponent 4 1)) d ∷ (l.invariant.3 ∙ all (exponent 4 2)) d ∷ (l.invariant.4 ∙ all (exponent 4 3)) d ∷ [];
+      exponents = (l.invariant.1 ∙ all (exponent 4 0)) d ∷ (l.invariant.2 ∙ all (exponent 4 1)) d ∷ (l.invariant.3 ∙ all (exponent 4 2)) d ∷
+          (l.invariant.4 ∙ all (exponent 4 3)) d ∷ [];
       total = (l.invariant.5 ∙ all (degree 4)) d;
     }

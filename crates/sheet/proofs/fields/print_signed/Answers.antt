@@ -26,7 +26,8 @@ mirror c = ap (λ (z : ℤ). negsuc 0 -ℤ z) (read (goal.at.Else-n-ge0 c).Start
 
 pub overflow_cast-n : goal.overflow_cast-n
 overflow_cast-n c =
-    rw (read (goal.at.overflow_cast-n c).Start ∙ from_zero _ (from (goal.at.overflow_cast-n c).Then-n-ge0)) (tt, record { fits = omega (arith, c.ranges.n.sfits) })
+    rw (read (goal.at.overflow_cast-n c).Start ∙ from_zero _ (from (goal.at.overflow_cast-n c).Then-n-ge0))
+    (tt, record { fits = omega (arith, c.ranges.n.sfits) })
 
 pub overflow_sub-n : goal.overflow_sub-n
 overflow_sub-n c = rw (mirror (goal.at.overflow_sub-n c).Else-n-ge0) (record { sfits = c.ranges.n.sfits })
