@@ -45,7 +45,7 @@ overflow_add-a c =
 pub returns-then-a-v-gt-LARGEST : goal.returns-then-a-v-gt-LARGEST
 returns-then-a-v-gt-LARGEST c =
     sym (first-stop (tried (goal.at.returns-then-a-v-gt-LARGEST c).At-loop-v) c.loop-v.v 4 c.loop-v-test.true
-    (sym (test (goal.at.returns-then-a-v-gt-LARGEST c).In-loop-v) ∙ lt-ltb 32767 _ c.if-a-v-gt-LARGEST.true)) ∙ c.loop-v.invariant.1
+    (sym (test (goal.at.returns-then-a-v-gt-LARGEST c).In-loop-v) ∙ lt-ltb 32767 _ (omega arith))) ∙ c.loop-v.invariant.1
 
 pub overflow_add-v : goal.overflow_add-v
 overflow_add-v c = omega (arith, c.loop-v-test.true)
@@ -57,7 +57,7 @@ pub loop-v-preserved : goal.loop-v-preserved
 loop-v-preserved c = (
   omega (arith, c.loop-v-test.true),
   sym (first_up (tried (goal.at.loop-v-preserved c).At-loop-v) c.loop-v.v 4 c.loop-v-test.true
-      (sym (test (goal.at.loop-v-preserved c).In-loop-v) ∙ le-ltb 32767 _ c.if-a-v-gt-LARGEST.false)) ∙ c.loop-v.invariant.1,
+      (sym (test (goal.at.loop-v-preserved c).In-loop-v) ∙ le-ltb 32767 _ (omega arith))) ∙ c.loop-v.invariant.1,
 )
 
 pub returns : goal.returns

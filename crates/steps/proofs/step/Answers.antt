@@ -21,19 +21,19 @@ lead-not c = sym c.divides.ensures ∙ c.if-divides.false
 
 pub returns-then-h-eq0 : goal.returns-then-h-eq0
 returns-then-h-eq0 c =
-    step_skips (at_head (c.requires.head, (c.requires.ready, c.requires.walking)) c.take_head-h.ensures) c.if-h-eq0.true
+    step_skips (at_head (c.requires.head, (c.requires.ready, c.requires.walking)) c.take_head-h.ensures) (omega arith)
 
 pub overflow_sub-word : goal.overflow_sub-word
 overflow_sub-word c =
     omega (
       arith,
-      quotient-word (at_head (c.requires.head, (c.requires.ready, c.requires.walking)) c.take_head-h.ensures) c.if-h-eq0.false
+      quotient-word (at_head (c.requires.head, (c.requires.ready, c.requires.walking)) c.take_head-h.ensures) (λ e. omega (arith, e))
           (lead-divides (goal.at.overflow_sub-word c).Then-divides),
     )
 
 pub judge_quotient-requires : goal.judge_quotient-requires
 judge_quotient-requires c = (
-  (quotient-word (at_head (c.requires.head, (c.requires.ready, c.requires.walking)) c.take_head-h.ensures) c.if-h-eq0.false
+  (quotient-word (at_head (c.requires.head, (c.requires.ready, c.requires.walking)) c.take_head-h.ensures) (λ e. omega (arith, e))
       (lead-divides (goal.at.judge_quotient-requires c).Then-divides)).0,
   divisor_monomial _ _ _ _ c.requires.ready,
 )
@@ -44,7 +44,7 @@ mul_mod-requires c =
     (c.requires.ready.positive, small.0, small.1)
 
 pub put_row-requires : goal.put_row-requires
-put_row-requires c = let asked = row_asked (at_head (c.requires.head, (c.requires.ready, c.requires.walking)) c.take_head-h.ensures) c.if-h-eq0.false
+put_row-requires c = let asked = row_asked (at_head (c.requires.head, (c.requires.ready, c.requires.walking)) c.take_head-h.ensures) (λ e. omega (arith, e))
     (lead-divides (goal.at.put_row-requires c).Then-divides) (sym c.judge_quotient.ensures ∙ c.if-t-eq0.true) in record {
       within = asked.0;
       vacant = asked.1.0;
@@ -54,11 +54,11 @@ put_row-requires c = let asked = row_asked (at_head (c.requires.head, (c.require
 pub overflow_add-t : goal.overflow_add-t
 overflow_add-t c =
     let S = at_head (c.requires.head, (c.requires.ready, c.requires.walking)) c.take_head-h.ensures in
-    omega (arith, (row_asked S c.if-h-eq0.false (lead-divides (goal.at.overflow_add-t c).Then-divides) (sym c.judge_quotient.ensures ∙ c.if-t-eq0.true)).0)
+    omega (arith, (row_asked S (λ e. omega (arith, e)) (lead-divides (goal.at.overflow_add-t c).Then-divides) (sym c.judge_quotient.ensures ∙ c.if-t-eq0.true)).0)
 
 pub returns-then-t-eq0 : goal.returns-then-t-eq0
 returns-then-t-eq0 c =
-    step-divides (at_head (c.requires.head, (c.requires.ready, c.requires.walking)) c.take_head-h.ensures) c.if-h-eq0.false
+    step-divides (at_head (c.requires.head, (c.requires.ready, c.requires.walking)) c.take_head-h.ensures) (λ e. omega (arith, e))
     (lead-divides (goal.at.returns-then-t-eq0 c).Then-divides)
     (sym c.judge_quotient.ensures ∙ c.if-t-eq0.true)
     c.mul_mod.ensures
@@ -68,12 +68,12 @@ returns-then-t-eq0 c =
 
 pub returns-else-t-eq0 : goal.returns-else-t-eq0
 returns-else-t-eq0 c =
-    step_stops_quotient (at_head (c.requires.head, (c.requires.ready, c.requires.walking)) c.take_head-h.ensures) c.if-h-eq0.false
+    step_stops_quotient (at_head (c.requires.head, (c.requires.ready, c.requires.walking)) c.take_head-h.ensures) (λ e. omega (arith, e))
     (lead-divides (goal.at.returns-else-t-eq0 c).Then-divides) _ c.judge_quotient.ensures c.if-t-eq0.false
 
 pub put_term-requires : goal.put_term-requires
 put_term-requires c =
-    remainder_asked (at_head (c.requires.head, (c.requires.ready, c.requires.walking)) c.take_head-h.ensures) c.if-h-eq0.false
+    remainder_asked (at_head (c.requires.head, (c.requires.ready, c.requires.walking)) c.take_head-h.ensures) (λ e. omega (arith, e))
     (lead-not (goal.at.put_term-requires c).Else-divides) (sym c.judge_remainder.ensures ∙ c.if-t-eq0-2.true)
 
 pub overflow_add-t-then-t-eq0-2 : goal.overflow_add-t-then-t-eq0-2
@@ -81,12 +81,12 @@ overflow_add-t-then-t-eq0-2 c =
     let S = at_head (c.requires.head, (c.requires.ready, c.requires.walking)) c.take_head-h.ensures in
     omega (
       arith,
-      remainder_asked S c.if-h-eq0.false (lead-not (goal.at.overflow_add-t-then-t-eq0-2 c).Else-divides) (sym c.judge_remainder.ensures ∙ c.if-t-eq0-2.true),
+      remainder_asked S (λ e. omega (arith, e)) (lead-not (goal.at.overflow_add-t-then-t-eq0-2 c).Else-divides) (sym c.judge_remainder.ensures ∙ c.if-t-eq0-2.true),
     )
 
 pub returns-then-t-eq0-2 : goal.returns-then-t-eq0-2
 returns-then-t-eq0-2 c =
-    step_moves (at_head (c.requires.head, (c.requires.ready, c.requires.walking)) c.take_head-h.ensures) c.if-h-eq0.false
+    step_moves (at_head (c.requires.head, (c.requires.ready, c.requires.walking)) c.take_head-h.ensures) (λ e. omega (arith, e))
     (lead-not (goal.at.returns-then-t-eq0-2 c).Else-divides)
     (sym c.judge_remainder.ensures ∙ c.if-t-eq0-2.true)
     c.put_term.ensures
@@ -95,5 +95,5 @@ returns-then-t-eq0-2 c =
 
 pub returns-else-t-eq0-2 : goal.returns-else-t-eq0-2
 returns-else-t-eq0-2 c =
-    step_stops_remainder (at_head (c.requires.head, (c.requires.ready, c.requires.walking)) c.take_head-h.ensures) c.if-h-eq0.false
+    step_stops_remainder (at_head (c.requires.head, (c.requires.ready, c.requires.walking)) c.take_head-h.ensures) (λ e. omega (arith, e))
     (lead-not (goal.at.returns-else-t-eq0-2 c).Else-divides) _ c.judge_remainder.ensures c.if-t-eq0-2.false

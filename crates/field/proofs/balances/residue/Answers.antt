@@ -8,6 +8,7 @@ use lib.Signed.{mag, le_z}
 use mir.Syntax.{w32}
 use mir.Val.{to_z, of_z}
 use mir.ValLaws.{to_z-of_z}
+use Rattle.std.proofs.lemmas.Int.{ints}
 use Rattle.moduli.specs.Moduli.{is_modulus}
 use Rattle.field.specs.Answers.{value, residue_of}
 use Rattle.moduli.proofs.Moduli.{modulus_prime, modulus_passed, modulus-refused}
@@ -29,7 +30,7 @@ unfolding residue_of
 returns-then-modulus-ne0 c = c.refused.ensures ∙ rw (modulus-refused _ c.modulus.ensures c.if-modulus-ne0.true)
 
 from : (c : Then-n-ge0) → le_z (pos 0) c.args.n ≡ true
-from c = rw (read c.before) at c.if-n-ge0.true
+from c = grind (arith, ints)
 
 pub overflow_cast-result : goal.overflow_cast-result
 overflow_cast-result c = rw (read c.before ∙ from_zero _ (from c)) (tt, record { fits = omega (arith, c.ranges.n.sfits) })
@@ -38,7 +39,7 @@ pub nonzero_rem-result : goal.nonzero_rem-result
 nonzero_rem-result c = positive c.before
 
 below : (c : Else-n-ge0) → le_z (pos 0) c.args.n ≡ false
-below c = rw (read c.before) at c.if-n-ge0.false
+below c = grind (arith, ints)
 
 -- −1 − n as the code computes it
 mirror : (c : Else-n-ge0) →
