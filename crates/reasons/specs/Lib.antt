@@ -1,0 +1,2 @@
+-- Why a call gives no result.
+pub mod Reasons
