@@ -6,6 +6,7 @@
 use mathlib.Core.Path.{◌≡◌, sym, ◌∙◌}
 use Rattle.calls.proofs.inputs.two_inputs.Reads as two-inputs
 use Rattle.calls.proofs.ending.room_reply.Reads as room-reply
+use Rattle.calls.proofs.ending.told.Reads as told
 use Rattle.calls.proofs.ending.report_of.Reads as report-of
 
 pub two_inputs-asks_nothing : (κs : _) (a : _) → two-inputs.Pre κs a
@@ -25,3 +26,9 @@ report_of-asks_nothing κs a = tt
 
 pub report_of-determined : (κs : _) (a : _) (r r' : _) (s s' : _) → report-of.Post κs a r s → report-of.Post κs a r' s' → r ≡ r'
 report_of-determined κs a r r' s s' p q = p ∙ sym q
+
+pub told-asks_nothing : (κs : _) (a : _) → told.Pre κs a
+told-asks_nothing κs a = tt
+
+pub told-determined : (κs : _) (a : _) (r r' : _) (s s' : _) → told.Post κs a r s → told.Post κs a r' s' → r ≡ r'
+told-determined κs a r r' s s' p q = p ∙ sym q

@@ -1,1 +1,3 @@
+-- Laws of reasons.
+pub mod Laws
 mod Determined
