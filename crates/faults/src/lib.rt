@@ -7,7 +7,8 @@ ghost use Rattle.faults.specs.Faults.{guard_at, order_at, bad_coef_at, faults_of
 
 use numbers::choose;
 
-// The first term with each kind of fault; the number of terms where there is none.
+// The first term with each kind of fault; the number of terms where there is none. No Option: a place is chosen without a branch, once
+// for each term.
 #[derive(Clone, Copy)]
 pub struct Faults {
     pub guard: u64,
@@ -19,12 +20,11 @@ pub struct Faults {
 pub fn find_faults(p: u64, s: &[u64]) -> Faults
     ensures { result ≡ faults_of base p s.now }
 {
-    let mut i = s.len() / 2;
-    let mut guard = i as u64;
-    let mut order = i as u64;
-    let mut coef = i as u64;
-    while 0 < i {
-        i -= 1;
+    let n = s.len() / 2;
+    let mut guard = n as u64;
+    let mut order = n as u64;
+    let mut coef = n as u64;
+    for i in (0..n).rev() {
         let place = i as u64;
         guard = choose(guard_at(s, i), place, guard);
         order = choose(order_at(s, i), place, order);
@@ -33,6 +33,7 @@ pub fn find_faults(p: u64, s: &[u64]) -> Faults
     Faults { guard, order, coef }
 }
 
+#[tactic(auto, unfolding(crate::specs::Faults::guard_at))]
 fn guard_at(s: &[u64], i: usize) -> bool
     requires { 2 * i < length s.now }
     ensures { result ≡ guard_at base s.now i }
@@ -44,19 +45,14 @@ fn order_at(s: &[u64], i: usize) -> bool
     requires { 2 * i < length s.now }
     ensures { result ≡ order_at s.now i }
 {
-    if i == 0 {
-        return false;
-    }
-    s[2 * (i - 1)] <= s[2 * i]
+    0 < i && s[2 * (i - 1)] <= s[2 * i]
 }
 
+#[tactic(auto, unfolding(crate::specs::Faults::bad_coef_at))]
 fn bad_coef_at(p: u64, s: &[u64], i: usize) -> bool
     requires { 2 * i + 1 < length s.now }
     ensures { result ≡ bad_coef_at p s.now i }
 {
     let c = s[2 * i + 1];
-    if c == 0 {
-        return true;
-    }
-    p <= c
+    c == 0 || p <= c
 }

@@ -1,35 +1,47 @@
-ghost use Rattle.std.specs.Prelude.{◌≡◌};
-ghost use Rattle.field.specs.Answers.{balanced_of, residue_of};
+ghost use Rattle.std.specs.Prelude.{◌≡◌, ◌<◌, ◌≤◌, true, ltb};
+ghost use Rattle.moduli.specs.Moduli.{limit};
+ghost use Rattle.field.specs.Answers.{balance_of, balanced_of, balanced_value, residue_of, residue_value, tried};
 
-use crate::{Balance, Value, refused};
-use moduli::{modulus, neg_mod};
+use crate::{Balance, Value, accept};
+use reasons::Reason;
+
+impl From<Result<i32, Reason>> for Balance {
+    ghost from_gives = { λ answer v. v ≡ balance_of answer };
+
+    fn from(answer: Result<i32, Reason>) -> Balance {
+        match answer {
+            Ok(value) => Balance { number: 0, value },
+            Err(reason) => Balance {
+                number: reason.number(),
+                value: 0,
+            },
+        }
+    }
+}
 
 // The balanced value of a residue.
 pub fn balanced(p: u64, c: u64) -> Balance
     ensures { result ≡ balanced_of p c }
 {
-    if modulus(p) != 0 {
-        return Balance {
-            number: 1,
-            value: 0,
-        };
-    }
-    if p <= c {
-        return Balance {
-            number: 6,
-            value: 0,
-        };
-    }
+    try_balanced(p, c).into()
+}
+
+fn try_balanced(p: u64, c: u64) -> Result<i32, Reason>
+    ensures { result ≡ tried p (ltb c p) (balanced_value p c) }
+{
+    accept(p, c < p)?;
+    Ok(balanced_mod(p, c))
+}
+
+// The balanced value, unchecked.
+fn balanced_mod(p: u64, c: u64) -> i32
+    requires { (p ≤ limit) × (c < p) }
+    ensures { result ≡ balanced_value p c }
+{
     if 2 * c <= p {
-        Balance {
-            number: 0,
-            value: c as i32,
-        }
+        c as i32
     } else {
-        Balance {
-            number: 0,
-            value: -((p - c) as i32),
-        }
+        -((p - c) as i32)
     }
 }
 
@@ -37,20 +49,20 @@ pub fn balanced(p: u64, c: u64) -> Balance
 pub fn residue(p: u64, n: i32) -> Value
     ensures { result ≡ residue_of p n }
 {
-    if modulus(p) != 0 {
-        return refused(1);
-    }
-    if 0 <= n {
-        Value {
-            number: 0,
-            value: n as u64 % p,
-        }
-    } else {
-        // −1 − n is exact at the least number too
-        let m = (-1 - n) as u64;
-        Value {
-            number: 0,
-            value: neg_mod(p, (m + 1) % p),
-        }
-    }
+    try_residue(p, n).into()
+}
+
+fn try_residue(p: u64, n: i32) -> Result<u64, Reason>
+    ensures { result ≡ tried p true (residue_value p n) }
+{
+    accept(p, true)?;
+    Ok(residue_mod(p, n))
+}
+
+// The residue, unchecked.
+fn residue_mod(p: u64, n: i32) -> u64
+    requires { (p ≤ limit) × (0 < p) }
+    ensures { result ≡ residue_value p n }
+{
+    i64::from(n).rem_euclid(p as i64) as u64
 }

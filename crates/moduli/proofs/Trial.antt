@@ -5,13 +5,16 @@
 --   tried_prime                p is a prime, once d · d is over p
 --   divided_not_prime          p is none, where a d from 2 with d · d at most p divides it
 --   small_not_prime            0 and 1 are none
+--   tried_test                 once d · d is over p, p is a prime just where it is 2 or more
 use Prim.Native.Nat.{ℕ, ◌+◌, ◌*◌, ◌/◌, ◌%◌, ◌<◌, ◌≤◌, ◌∣◌}
-use mathlib.Core.Path.{◌≡◌, refl}
+use mathlib.Core.Path.{◌≡◌, refl, sym, ◌∙◌}
 use mathlib.Core.Bool.{Bool, true, false}
 use mathlib.Core.Logic.{◌⊎◌, inl, inr}
 use native.Mathlib.Nat.{le_refl, mul-le-mul, mul-div_cancel', dvd-mul_left, mod-eq-zero_of_dvd, dvd_of_mod-eq-zero, pos_of_dvd_of_pos}
-use native.Mathlib.Decide.{ℕ_discrete, dec_lt}
+use native.Mathlib.Decide.{ℕ_discrete, dec_lt, dec_le}
 use native.Mathlib.Omega.{arith}
+use lib.Dec.{leb}
+use borrow.Author.Tests.{le-leb, lt-leb}
 use Rattle.algebra.specs.Residues.{is_prime}
 use Rattle.algebra.proofs.Primes.{prime_of_test, test_of_prime}
 
@@ -47,7 +50,7 @@ second_factor {p} {d} T h c e k l f z =
           ]
     ]
 
-pub tried_prime : {p d : ℕ} → 2 ≤ p → Tried p d → p < d * d → is_prime p ≡ true
+tried_prime : {p d : ℕ} → 2 ≤ p → Tried p d → p < d * d → is_prime p ≡ true
 tried_prime {p} {d} two T h = test_of_prime (record { two = two; only = only })
   where
     only : (c : ℕ) → c ∣ p → (c ≡ 1) ⊎ (c ≡ p)
@@ -73,5 +76,12 @@ divided_not_prime {p} {d} two h e =
     refuted _
     (λ t. elim ((prime_of_test t).only d (dvd_of_mod-eq-zero d e)) [ inl f ↦ omega arith | inr f ↦ omega arith ])
 
-pub small_not_prime : {p : ℕ} → p < 2 → is_prime p ≡ false
+small_not_prime : {p : ℕ} → p < 2 → is_prime p ≡ false
 small_not_prime h = refuted _ (λ t. let two = (prime_of_test t).two in omega arith)
+
+pub tried_test : {p d : ℕ} → Tried p d → p < d * d → leb 2 p ≡ is_prime p
+tried_test {p} {d} T h =
+    elim (dec_le 2 p) [
+      | yes two ↦ le-leb 2 p two ∙ sym (tried_prime two T h)
+      | no n ↦ let small : p < 2 = omega arith in lt-leb 2 p small ∙ sym (small_not_prime small)
+    ]

@@ -3,18 +3,28 @@
 
 ghost use Rattle.std.specs.Prelude.{◌≡◌, ◌≤◌, ◌+◌, ◌-◌, ◌%◌, ◌<◌, ◌*◌};
 ghost use Rattle.algebra.specs.Residues.{is_prime, Prime, inverse};
-ghost use Rattle.moduli.specs.Moduli.{limit, modulus_of};
+ghost use Rattle.moduli.specs.Moduli.{limit, is_modulus, modulus_of};
 
+// The greatest modulus.
 const LIMIT: u64 = 2147483647;
 
-// Reply 0 where p is a prime in its range, else 1.
+// The first number whose square is over the limit.
+const ROOT_END: u64 = 46341;
+
+// Whether p is a prime in its range.
+#[tactic(auto, unfolding(crate::specs::Moduli::is_modulus))]
+pub fn is_modulus(p: u64) -> bool
+    ensures { result ≡ is_modulus p }
+{
+    p <= LIMIT && is_prime(p)
+}
+
+// Reply 0 where p is a modulus, else 1.
+#[tactic(auto, unfolding(crate::specs::Moduli::modulus_of))]
 pub fn modulus(p: u64) -> u64
     ensures { result ≡ modulus_of p }
 {
-    if LIMIT < p {
-        return 1;
-    }
-    if is_prime(p) { 0 } else { 1 }
+    if is_modulus(p) { 0 } else { 1 }
 }
 
 // Whether p is a prime, by trial division up to its root.
@@ -22,17 +32,15 @@ fn is_prime(p: u64) -> bool
     requires { p ≤ limit }
     ensures { result ≡ is_prime p }
 {
-    if p < 2 {
-        return false;
-    }
-    let mut d = 2;
-    while d * d <= p {
+    for d in 2..ROOT_END {
+        if p < d * d {
+            break;
+        }
         if p % d == 0 {
             return false;
         }
-        d += 1;
     }
-    true
+    2 <= p
 }
 
 // a + b, unchecked.

@@ -1,33 +1,17 @@
--- Every public call takes any words and has one answer.
+-- Every public call takes any words, `word` aside, and has one answer.
 --
 --   CALL-asks_nothing   the call's contract requires nothing
 --   CALL-determined     two answers that the call's contract allows are the same
-use mathlib.Core.Path.{◌≡◌, refl, sym, ◌∙◌, ap}
-use native.Mathlib.Omega.{arith}
-use Rattle.monomial.specs.Answers.{product_value, quotient_value}
-use Rattle.monomial.specs.declared.Product.{Product}
-use Rattle.monomial.specs.declared.Quotient.{Quotient}
+use mathlib.Core.Path.{◌≡◌, sym, ◌∙◌}
+use Rattle.field.proofs.Results.{same_result}
 use Rattle.monomial.proofs.is_monomial.Reads as is-monomial
 use Rattle.monomial.proofs.exponent.Reads as exponent
 use Rattle.monomial.proofs.pack.Reads as pack
+use Rattle.monomial.proofs.word.Reads as word
 use Rattle.monomial.proofs.unpack.Reads as unpack
 use Rattle.monomial.proofs.multiply.Reads as multiply
 use Rattle.monomial.proofs.divides.Reads as divides
 use Rattle.monomial.proofs.divide.Reads as divide
-
--- a number and a value belong to one case only
-
-product_of-value : (r r' : Product) → product_value r ≡ product_value r' → r ≡ r'
-product_of-value (Product.Word x) (Product.Word y) e = ap (λ v. Product.Word v.value) e
-product_of-value (Product.Word x) Product.TooBig e = absurd (omega (arith, ap (λ v. v.number) e))
-product_of-value Product.TooBig (Product.Word y) e = absurd (omega (arith, ap (λ v. v.number) e))
-product_of-value Product.TooBig Product.TooBig e = refl
-
-quotient_of_value : (r r' : Quotient) → quotient_value r ≡ quotient_value r' → r ≡ r'
-quotient_of_value (Quotient.Word x) (Quotient.Word y) e = ap (λ v. Quotient.Word v.value) e
-quotient_of_value (Quotient.Word x) Quotient.NoQuotient e = absurd (omega (arith, ap (λ v. v.number) e))
-quotient_of_value Quotient.NoQuotient (Quotient.Word y) e = absurd (omega (arith, ap (λ v. v.number) e))
-quotient_of_value Quotient.NoQuotient Quotient.NoQuotient e = refl
 
 pub is_monomial-asks_nothing : (κs : _) (a : _) → is-monomial.Pre κs a
 is_monomial-asks_nothing κs a = tt
@@ -47,6 +31,9 @@ pack-asks_nothing κs a = tt
 pub pack-determined : (κs : _) (a : _) (r r' : _) (s s' : _) → pack.Post κs a r s → pack.Post κs a r' s' → r ≡ r'
 pack-determined κs a r r' s s' p q = p ∙ sym q
 
+pub word-determined : (κs : _) (a : _) (r r' : _) (s s' : _) → word.Post κs a r s → word.Post κs a r' s' → r ≡ r'
+word-determined κs a r r' s s' p q = p ∙ sym q
+
 pub unpack-asks_nothing : (κs : _) (a : _) → unpack.Pre κs a
 unpack-asks_nothing κs a = tt
 
@@ -57,7 +44,7 @@ pub multiply-asks_nothing : (κs : _) (a : _) → multiply.Pre κs a
 multiply-asks_nothing κs a = tt
 
 pub multiply-determined : (κs : _) (a : _) (r r' : _) (s s' : _) → multiply.Post κs a r s → multiply.Post κs a r' s' → r ≡ r'
-multiply-determined κs a r r' s s' p q = product_of-value r r' (p ∙ sym q)
+multiply-determined κs a r r' s s' p q = same_result r r' (p ∙ sym q)
 
 pub divides-asks_nothing : (κs : _) (a : _) → divides.Pre κs a
 divides-asks_nothing κs a = tt
@@ -69,4 +56,4 @@ pub divide-asks_nothing : (κs : _) (a : _) → divide.Pre κs a
 divide-asks_nothing κs a = tt
 
 pub divide-determined : (κs : _) (a : _) (r r' : _) (s s' : _) → divide.Post κs a r s → divide.Post κs a r' s' → r ≡ r'
-divide-determined κs a r r' s s' p q = quotient_of_value r r' (p ∙ sym q)
+divide-determined κs a r r' s s' p q = same_result r r' (p ∙ sym q)

@@ -3,6 +3,7 @@
 --   mask_monomial    no bit of the mask of guard bits is set just where the word is a monomial
 --   either_monomial  one test for two words
 --   both_monomials   the same, read as two facts
+--   sum_tested       the product of two words, by those tests of both words and of their sum
 --   divides-none     where that test fails, the one word does not divide the other
 --   lent-word        setting a monomial's guard bits adds the mask
 --   lent_covers      with its guard bits set a monomial is at least every monomial
@@ -14,10 +15,13 @@ use native.Mathlib.Omega.{arith}
 use lib.Bits.{bit_and, bit_or, or_disjoint}
 use lib.Dec.{eqb, ltb}
 use borrow.Author.Tests.{eqb-true}
+use Rattle.algebra.specs.Residues.{pick}
 use Rattle.algebra.proofs.Tests.{both_true, both_swap}
+use Rattle.field.specs.Answers.{value, no_value}
+use Rattle.monomial.specs.Answers.{word_product_of}
 use Rattle.monomial.specs.Layout.{Layout, exponents_of, fits, is_monomial, divides, word_divides}
 use Rattle.monomial.proofs.Fields.{or_below, either-test, guards, guards-test, guards_cover, borrow_test}
-use Rattle.monomial.proofs.Laws.{read, monomial_below, monomial_fits, monomial_test, monomial_word, divides-exponents}
+use Rattle.monomial.proofs.Laws.{read, monomial_below, monomial_fits, monomial_test, monomial_word, product-sum, divides-exponents}
 
 module _ (v k : ℕ) where
   abbrev pub fields : Layout
@@ -35,6 +39,11 @@ module _ (v k : ℕ) where
 
   pub both_monomials : (m n : ℕ) → is_monomial fields (bit_or m n) ≡ true → (is_monomial fields m ≡ true) × (is_monomial fields n ≡ true)
   both_monomials m n h = both_true (is_monomial fields m) (is_monomial fields n) (sym (either_monomial m n) ∙ h)
+
+  pub sum_tested : (m n : ℕ) → m < 2 ^ (suc v * k) → n < 2 ^ (suc v * k) →
+      word_product_of fields m n ≡ pick (is_monomial fields (bit_or m n) && is_monomial fields (m + n)) (value (m + n)) (no_value 9)
+  sum_tested m n h g =
+      product-sum fields m n h g ∙ ap (λ t. pick (t && is_monomial fields (m + n)) (value (m + n)) (no_value 9)) (sym (either_monomial m n))
 
   pub divides-none : (m n : ℕ) → is_monomial fields (bit_or m n) ≡ false → word_divides fields m n ≡ false
   unfolding word_divides

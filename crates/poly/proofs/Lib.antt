@@ -1,6 +1,6 @@
 -- Laws of polynomials in memory.
-pub mod Terms
 pub mod Readings
+pub mod Measures
 pub mod Records
 pub mod Rooms
 pub mod Transport

@@ -6,7 +6,7 @@
 --   letters_fit, smaller-fits      a monomial fits whose letters do, and one whose exponents are not above those of one that fits
 --   maxima-exponent, maxima-fits   the largest exponents as one monomial; of a valid slice it fits
 --   under_maxima-fits              a product fits where the one with the largest exponents does
---   packed                         packing the exponents of a profile gives the word of the maxima
+--   maxima_of                      the exponents of a profile are the maxima
 use Prim.Native.Nat.{ℕ, ◌/◌, ◌^◌, ◌≤◌, ◌<◌, zero, suc}
 use mathlib.Core.Path.{◌≡◌, refl, ◌∙◌, ap}
 use mathlib.Core.Bool.{true}
@@ -14,7 +14,6 @@ use mathlib.Core.List.{List}
 use native.Mathlib.Decide.{dec_lt}
 use native.Mathlib.Omega.{arith}
 use lib.ListN.{get_or}
-use Rattle.algebra.specs.Residues.{pick}
 use Rattle.algebra.specs.Monomials.{Letters, exponent}
 use Rattle.algebra.specs.Orders.{exponent_adds}
 use Rattle.algebra.specs.Polynomials.{Poly, largest}
@@ -22,15 +21,12 @@ use Rattle.algebra.proofs.All.{all_map}
 use Rattle.algebra.proofs.Degrees.{largest_most}
 use Rattle.monomial.specs.Layout.{base, is_monomial}
 use Rattle.monomial.proofs.Fields.{fits_letters, exponent-none}
-use Rattle.monomial.proofs.Laws.{read, fit, monomial_fits, write}
+use Rattle.monomial.proofs.Laws.{read, fit, monomial_fits}
 use Rattle.poly.specs.Words.{records, word_at, poly_of}
 use Rattle.poly.specs.Valid.{Valid}
 use Rattle.poly.specs.Profiles.{measure_of, maxima}
 use Rattle.poly.specs.declared.profile.Profile.{Profile}
 use Rattle.poly.proofs.Readings.{measure-exponents, valid_fits}
-use Rattle.field.specs.Answers.{value, no_value}
-use Rattle.field.specs.declared.Value.{Value}
-use Rattle.monomial.specs.Answers.{pack_of}
 
 pub exponents_of_lem : (s : List ℕ) {m : Profile} →
     m ≡ measure_of s → (v : ℕ) → v < 4 → get_or m.exponents v 0 ≡ largest (exponent 4 v) (poly_of base s)
@@ -77,12 +73,8 @@ under_maxima-fits a b g under =
     smaller-fits ((Letters 4).mul a b) ((Letters 4).mul a (maxima g))
     (λ v l. omega (arith, exponent_adds 4 v a b, exponent_adds 4 v a (maxima g), maxima-exponent g v l, under v))
 
-pub packed : (s : List ℕ) (m : Profile) → m ≡ measure_of s → fit base (maxima (poly_of base s)) ≡ true →
-    (v : Value) → v ≡ pack_of base (get_or m.exponents 0 0, (get_or m.exponents 1 0, (get_or m.exponents 2 0, (get_or m.exponents 3 0, tt)))) →
-    v.value ≡ write base (maxima (poly_of base s))
-packed s m e h v f =
+pub maxima_of : (s : List ℕ) (m : Profile) → m ≡ measure_of s →
+    ◌≡◌ {A = (Letters 4).Mon} (get_or m.exponents 0 0, (get_or m.exponents 1 0, (get_or m.exponents 2 0, (get_or m.exponents 3 0, tt)))) (maxima (poly_of base s))
+maxima_of s m e =
     let x = exponents_of_lem s e in
-    ap (λ (y : Value). y.value)
-    (f
-    ∙ (λ d. pack_of base (x 0 (omega arith) d, (x 1 (omega arith) d, (x 2 (omega arith) d, (x 3 (omega arith) d, tt)))))
-    ∙ (λ d. pick (h d) (value (write base (maxima (poly_of base s)))) (no_value 4)))
+    λ d. (x 0 (omega arith) d, (x 1 (omega arith) d, (x 2 (omega arith) d, (x 3 (omega arith) d, tt))))

@@ -38,7 +38,6 @@ use Rattle.monomial.proofs.Laws.{read, write, fit, monomial_fits, monomial_word,
 use Rattle.poly.specs.Words.{records, word_at, coef_at, term_at, terms, span, decoded_poly, poly_of, words_of}
 use Rattle.poly.specs.Profiles.{measure_of}
 use Rattle.poly.specs.Valid.{Valid}
-use Rattle.poly.proofs.Terms.{length-terms}
 
 abbrev pub term_w : List ℕ → ℕ → Term Numbers
 term_w s i = term (word_at s i) (coef_at s i)
@@ -52,6 +51,10 @@ coded_poly l [] = []
 coded_poly l (u ∷ f) = term (write l u.mon) u.num ∷ coded_poly l f
 
 -- Records
+
+length-terms : (l : Layout) (s : List ℕ) (i n : ℕ) → length (terms l s i n) ≡ n
+length-terms l s i zero = refl
+length-terms l s i (suc n) = ap suc (length-terms l s (suc i) n)
 
 pub length-span : (s : List ℕ) (i n : ℕ) → length (span s i n) ≡ n
 length-span s i zero = refl

@@ -1,9 +1,11 @@
 // Keys: a monomial word + 1, and 0 where there is none. The terms of several slices are met by them, from the greatest monomial down.
+// A key is a word and no Option, since the tree in the work array keeps keys in its words, and the greater of two is their `max`.
 ghost use Rattle.std.specs.Prelude.{◌≡◌, ◌<◌, ◌^◌};
 ghost use Rattle.poly.specs.Words.{records, word_at};
 ghost use Rattle.poly.specs.Keys.{key_at, head_at};
 
-// The coefficient of a monomial, and the place behind its record.
+// The coefficient of a monomial, and the place behind its record; where the monomial is not there, 0 and the same place. No Option:
+// a coefficient 0 is added, and the same place taken on, as any other.
 #[derive(Clone, Copy)]
 pub struct Head {
     pub coef: u64,

@@ -6,10 +6,8 @@ ghost use Rattle.poly.specs.Words.{records};
 pub fn clear(s: &mut [u64], from: usize)
     ensures { s.new ≡ take from s.old ++ replicate (length s.old - from) 0 }
 {
-    let mut i = from;
-    while i < s.len() {
-        s[i] = 0;
-        i += 1;
+    if from < s.len() {
+        s[from..].fill(0);
     }
 }
 

@@ -1,5 +1,5 @@
 -- `faults::find_faults` meets its contract. The loop's invariant: each place is the first one from term i on.
-use Prim.Native.Nat.{◌≤◌, ◌-◌}
+use Prim.Native.Nat.{◌-◌}
 use mathlib.Core.Path.{◌≡◌}
 use Rattle.algebra.specs.Residues.{first}
 use Rattle.monomial.specs.Layout.{base}
@@ -9,10 +9,8 @@ use Rattle.faults.proofs.find_faults.Given as goal
 
 abbrev pub invariant-loop-i : goal.invariant-loop-i
 invariant-loop-i l =
-    (l.i ≤ records l.s)
-    × (l.guard ≡ first (guard_at base l.s) l.i (records l.s - l.i))
-    × (l.order ≡ first (order_at l.s) l.i (records l.s - l.i))
-    × (l.coef ≡ first (bad_coef_at l.p l.s) l.i (records l.s - l.i))
-
-abbrev pub decreases-loop-i : goal.decreases-loop-i
-decreases-loop-i l = l.i
+    record {
+      guard : l.guard ≡ first (guard_at base l.s) l.i (records l.s - l.i);
+      order : l.order ≡ first (order_at l.s) l.i (records l.s - l.i);
+      coef : l.coef ≡ first (bad_coef_at l.p l.s) l.i (records l.s - l.i);
+    }

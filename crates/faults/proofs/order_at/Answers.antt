@@ -4,7 +4,6 @@ use mathlib.Core.Path.{◌≡◌, sym, ap}
 use mathlib.Core.List.{List}
 use native.Mathlib.Omega.{arith}
 use lib.Dec.{leb}
-use borrow.Author.Rules.{rules}
 use Rattle.poly.specs.Words.{word_at}
 use Rattle.faults.specs.Faults.{order_at}
 use Rattle.faults.proofs.order_at.Goals as goal
@@ -15,9 +14,9 @@ unfolding order_at
 order-later s zero h = absurd (omega arith)
 order-later s (suc i) h = let e : i ≡ suc i - 1 = omega arith in ap (λ x. leb (word_at s x) (word_at s (suc i))) e
 
-pub returns-then-i-eq0 : goal.returns-then-i-eq0
-unfolding order_at
-returns-then-i-eq0 c = rw c.if-i-eq0.true
+pub returns-then-i-gt0 : goal.returns-then-i-gt0
+returns-then-i-gt0 c = sym (order-later c.args.s.now c.args.i c.if-i-gt0.true)
 
-pub returns : goal.returns
-returns c = sym (order-later c.args.s.now c.args.i (search rules))
+pub returns-else-i-gt0 : goal.returns-else-i-gt0
+unfolding order_at
+returns-else-i-gt0 c = let none : c.args.i ≡ 0 = omega arith in rw none

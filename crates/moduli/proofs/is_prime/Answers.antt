@@ -1,30 +1,15 @@
-use mathlib.Core.Path.{sym}
+use mathlib.Core.Path.{◌≡◌, sym}
 use native.Mathlib.Omega.{arith}
-use Rattle.moduli.proofs.Bounds.{product-fits, root_small}
-use Rattle.moduli.proofs.Trial.{tried_none, tried_more, tried_prime, divided_not_prime, small_not_prime}
+use Rattle.moduli.proofs.Trial.{tried_test, divided_not_prime}
 use Rattle.moduli.proofs.is_prime.Goals as goal
-
-pub returns-then-p-lt2 : goal.returns-then-p-lt2
-returns-then-p-lt2 c = sym (small_not_prime (omega arith))
-
-pub loop-d-init : goal.loop-d-init
-loop-d-init c = (omega arith, omega arith, tried_none c.args.p)
-
-pub overflow_mul-d : goal.overflow_mul-d
-overflow_mul-d c = product-fits c.loop-d.d c.loop-d.d (omega arith) (omega arith)
+use Rattle.moduli.proofs.is_prime.Goals.{else-loop-d-test, then-loop-d-test+then-p-d}
 
 pub returns-then-p-d-eq0 : goal.returns-then-p-d-eq0
-returns-then-p-d-eq0 c = sym (divided_not_prime c.loop-d.invariant.0 c.loop-d-test.true c.if-p-d-eq0.true)
-
-pub loop-d-smaller : goal.loop-d-smaller
-loop-d-smaller c = omega (arith, root_small c.loop-d.d (omega arith))
-
-pub loop-d-preserved : goal.loop-d-preserved
-loop-d-preserved c = (
-  omega arith,
-  omega (arith, root_small c.loop-d.d (omega arith)),
-  tried_more c.loop-d.invariant.2 c.if-p-d-eq0.false,
-)
+returns-then-p-d-eq0 c = sym (divided_not_prime c.loop-d.auto.d c.if-p-d.false c.if-p-d-eq0.true)
 
 pub returns : goal.returns
-returns c = sym (tried_prime (omega arith) c.loop-d.invariant.2 c.loop-d-test.false)
+returns c =
+    elim c.loop-d-test.branch [
+      | else-loop-d-test w ↦ let end : c.loop-d.d ≡ 46341 = omega arith in tried_test c.loop-d.invariant (rw end (omega arith))
+      | then-loop-d-test+then-p-d w ↦ tried_test c.loop-d.invariant w.if-p-d.true
+    ]

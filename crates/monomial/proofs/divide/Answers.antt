@@ -8,9 +8,4 @@ pub overflow_sub-result : goal.overflow_sub-result
 overflow_sub-result c = divides_le base c.args.m c.args.n (sym c.divides.ensures ∙ c.if-divides.true)
 
 pub returns-then-divides : goal.returns-then-divides
-returns-then-divides c =
-    sym (quotient-difference base c.args.m c.args.n ∙ rw (sym c.divides.ensures ∙ c.if-divides.true))
-
-pub returns-else-divides : goal.returns-else-divides
-returns-else-divides c =
-    sym (quotient-difference base c.args.m c.args.n ∙ rw (sym c.divides.ensures ∙ c.if-divides.false))
+returns-then-divides c = sym (quotient-difference base c.args.m c.args.n ∙ rw (sym c.divides.ensures ∙ c.if-divides.true))

@@ -3,12 +3,8 @@ use mathlib.Core.Path.{◌∙◌, sym}
 use Prim.Native.Nat.{◌/◌, ◌^◌, ◌*◌, ◌-◌}
 use native.Mathlib.Omega.{arith}
 use lib.Bits.{and_mask}
-use Rattle.monomial.specs.Layout.{exponents_of}
-use Rattle.monomial.proofs.Fields.{exponent_field, exponent-none}
+use Rattle.monomial.proofs.Fields.{exponent_field}
 use Rattle.monomial.proofs.exponent.Goals as goal
-
-pub returns-then-letter-gt3 : goal.returns-then-letter-gt3
-returns-then-letter-gt3 c = sym (exponent-none 16 4 c.args.letter (exponents_of 16 4 c.args.word) (omega arith))
 
 pub returns : goal.returns
 returns c =
