@@ -7,9 +7,8 @@
 --   count f end              the number of an end's value, and 0 where it has none
 --   left-kept, left_ok       a room left by the terms of an end's value is kept with the end's reply
 --   told-kept                the report of the terms of an end's value, with the end's reply
---   left-roomed, told-roomed the same of counted terms, with their room's reply
---   mapped                   what `map` makes of a result
-use Rattle.std.proofs.Common.{ℕ, ◌≡◌, List, refl, sym, ap, arith, Bool, true, false, Some, None, option_map, Result, Ok, Err, IsOkAnd, MatchResult}
+--   left-roomed, told-roomed the same of counted terms, with their room's reply. That `map` makes such a result, `search rules` proves
+use Rattle.std.proofs.Common.{ℕ, ◌≡◌, List, refl, sym, ap, arith, Bool, true, false, Some, None, option_map, Result, Ok, Err}
 use Rattle.std.specs.Result.{result_ok, result_map_both}
 use lib.Dec.{leb}
 use borrow.Author.Tests.{ne_eqb}
@@ -81,9 +80,3 @@ module _ (n : ℕ) (room : List ℕ) where
       go : (b : Bool) → told_of (result_map_both (λ v. (f v, g v)) (λ reason. reason) (picked b)) ≡ told (pick b 0 10) (f n) (g n)
       go true = refl
       go false = refl
-
-pub mapped : {A B E : Type 0} (f : A → B) (r : Result A E) (s : Result B E) →
-    MatchResult r (λ v. IsOkAnd s (λ w. w ≡ f v)) (λ e. s ≡ Err e) → s ≡ result_map_both f (λ e. e) r
-mapped f (Ok v) (Ok w) e = ap (λ w. Ok w) e
-mapped f (Ok v) (Err _) e = absurd e
-mapped f (Err _) s e = e
