@@ -33,8 +33,8 @@ pub fn told(end: Result<(usize, usize), Reason>) -> Report
     ensures { result ≡ told_of end }
 {
     match end {
-        Ok((first, second)) => report_of(0, first, second),
-        Err(reason) => report_of(reason.number(), 0, 0),
+        Ok((first, second)) => done(first as u64, second as u64),
+        Err(reason) => refusal(reason, 0, 0),
     }
 }
 
@@ -45,6 +45,9 @@ pub fn report_of(reply: u64, first: usize, second: usize) -> Report
     if reply == 0 {
         done(first as u64, second as u64)
     } else {
-        refusal(reply, 0, 0)
+        Report {
+            number: reply,
+            ..Report::default()
+        }
     }
 }

@@ -6,11 +6,12 @@ ghost use Rattle.refusals.specs.Rules.{lent};
 ghost use Rattle.dues.specs.Dues.{no_due, with_room, with_input, first_due};
 
 use faults::find_faults;
-use refusals::report::{Report, done, or_else};
+use reasons::Reason;
+use refusals::report::{Report, or_else};
 use refusals::rules::{at_term, long_rule, modulus_rule, odd_rule};
 
 // The first refusal of each kind, 2 to 6, that is due of the slices lent so far.
-#[derive(Clone, Copy)]
+#[derive(Clone, Copy, Debug, Default, PartialEq, Eq)]
 pub struct Due {
     pub odd: Report,
     pub long: Report,
@@ -24,14 +25,7 @@ impl Due {
     pub fn none() -> Due
         ensures { result ≡ no_due }
     {
-        let passed = done(0, 0);
-        Due {
-            odd: passed,
-            long: passed,
-            guard: passed,
-            order: passed,
-            coef: passed,
-        }
+        Due::default()
     }
 
     // One more slice, of at most so many terms: 2 and 3.
@@ -50,9 +44,18 @@ impl Due {
         let mut due = self.room(operand, most, s);
         let count = (s.len() / 2) as u64;
         let f = find_faults(p, s);
-        due.guard = or_else(due.guard, at_term(4, operand, f.guard, count));
-        due.order = or_else(due.order, at_term(5, operand, f.order, count));
-        due.coef = or_else(due.coef, at_term(6, operand, f.coef, count));
+        due.guard = or_else(
+            due.guard,
+            at_term(Reason::BadMonomial, operand, f.guard, count),
+        );
+        due.order = or_else(
+            due.order,
+            at_term(Reason::BadOrder, operand, f.order, count),
+        );
+        due.coef = or_else(
+            due.coef,
+            at_term(Reason::BadCoefficient, operand, f.coef, count),
+        );
         due
     }
 

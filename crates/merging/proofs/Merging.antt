@@ -4,7 +4,6 @@
 --   signed_small                  a signed coefficient is below p
 --   greatest_left                 what two heads at the greatest key are together
 --   front_small                   the coefficient of a record in front is below p
---   pick_most                     a step chosen of two is at most 1
 --   front_some                    where a record is left, equal keys are those of two records
 --   greatest_both, greatest_one   what two records in front are together: of one key, and of two
 --   Merged, merge-starts, merge_skips, merge_writes   the loop: what is written, and what is unmerged, is the normal form
@@ -14,6 +13,8 @@ use mathlib.Core.Path.{◌≡◌, refl, sym, ◌∙◌, ap, subst}
 use mathlib.Core.Bool.{Bool, true, false}
 use mathlib.Core.List.{List, [], ◌∷◌, ◌++◌}
 use lib.Dec.{ltb}
+use Rattle.std.specs.Prelude.{not}
+use Rattle.std.specs.Int.{from_bool}
 use native.Mathlib.Nat.{mod-lt, mod_self, mod-eq_of_lt, le-max_left, le-max_right, max-eq_left, max-eq_right}
 use native.Mathlib.Decide.{ℕ_discrete, dec_lt}
 use native.Mathlib.Omega.{arith}
@@ -40,14 +41,14 @@ use Rattle.merging.specs.declared.Lead.{Lead}
 -- What is greatest
 
 -- where a record is left of one of two inputs there is a key
-pub some_key : (a b : List ℕ) (i j : ℕ) → i + j < records a + records b → 0 < max (key_at a i) (key_at b j)
+some_key : (a b : List ℕ) (i j : ℕ) → i + j < records a + records b → 0 < max (key_at a i) (key_at b j)
 some_key a b i j h = go (dec_lt i (records a))
   where
     go : Dec (i < records a) → 0 < max (key_at a i) (key_at b j)
     go (yes l) = omega (arith, key_here a i l, le-max_left (key_at a i) (key_at b j))
     go (no l) = omega (arith, key_here b j (omega arith), le-max_right (key_at a i) (key_at b j))
 
-pub signed_small : (p : ℕ) (minus : Bool) (c : ℕ) → c < p → signed_coef p minus c < p
+signed_small : (p : ℕ) (minus : Bool) (c : ℕ) → c < p → signed_coef p minus c < p
 signed_small p true c h = mod-lt (p - c) (omega arith)
 signed_small p false c h = h
 
@@ -102,7 +103,7 @@ module _ (p : ℕ) (s : List ℕ) (i : ℕ) (v : Valid p s) (x : Front) (e : x �
   front-coef : (t : Bool) → ltb i (records s) ≡ t → x.coef ≡ pick t (coef_at s i) 0
   front-coef t h = ap (λ r. r.coef) e ∙ ap (λ b. pick b (coef_at s i) 0) h
 
-  pub front_small : 0 < p → x.coef < p
+  front_small : 0 < p → x.coef < p
   front_small pos =
       elim (dec_lt i (records s)) [
         | yes h ↦ subst (λ n. n < p) (sym (front-coef true (lt-ltb i (records s) h))) (v.coefs i h).1
@@ -125,11 +126,6 @@ module _ (p : ℕ) (s : List ℕ) (i : ℕ) (v : Valid p s) (x : Front) (e : x �
     front_waits h =
         let lower : key_at s i < k = omega (arith, front-key) in
         head_taken s v.falls i k some within (omega arith) _ (sym (ap either (ne_eqb (key_at s i) k (λ z. omega arith))))
-
--- a step chosen of two
-pub pick_most : (t : Bool) (m n : ℕ) → m ≤ 1 → n ≤ 1 → pick t m n ≤ 1
-pick_most true m n h l = h
-pick_most false m n h l = l
 
 module _ (a b : List ℕ) (i j : ℕ) (x y : Front) (ex : x ≡ front_at a i) (ey : y ≡ front_at b j) where
   abbrev top : ℕ
@@ -158,7 +154,7 @@ module _ (a b : List ℕ) (i j : ℕ) (x y : Front) (ex : x ≡ front_at a i) (e
 
     -- of two keys: the greater is taken
     taken : (x.key ≡ y.key → ⊥) → (t : Bool) → ahead ≡ t →
-        Greatest p minus a b i j (record { word = top - 1; coef = pick t x.coef d; first = i + pick t 1 0; second = j + pick t 0 1 })
+        Greatest p minus a b i j (record { word = top - 1; coef = pick t x.coef d; first = i + from_bool t; second = j + from_bool (not t) })
     taken differ true h =
         let less : y.key < x.key = ltb-true y.key x.key h in
         let here : x.key ≡ top = sym (max-eq_left (omega arith)) in
@@ -178,7 +174,7 @@ module _ (a b : List ℕ) (i j : ℕ) (x y : Front) (ex : x ≡ front_at a i) (e
         d d ed (sym (ap (λ n. n % p) (omega arith) ∙ mod-eq_of_lt small)))
 
     pub greatest_one : (x.key ≡ y.key → ⊥) → (k c m n : ℕ) → k ≡ max x.key y.key →
-        let t = ltb y.key x.key in c ≡ pick t x.coef d → m ≡ pick t 1 0 → n ≡ pick t 0 1 →
+        let t = ltb y.key x.key in c ≡ pick t x.coef d → m ≡ from_bool t → n ≡ from_bool (not t) →
         Greatest p minus a b i j (record { word = k - 1; coef = c; first = i + m; second = j + n })
     greatest_one differ k c m n ek ec em en =
         subst (Greatest p minus a b i j) (λ z. record { word = sym ek z - 1; coef = sym ec z; first = i + sym em z; second = j + sym en z })

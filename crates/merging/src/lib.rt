@@ -10,7 +10,7 @@ ghost use Rattle.calls.specs.Endings.{Filled};
 ghost use Rattle.merging.specs.Merging.{unmerged, front_at, Greatest};
 
 use moduli::{add_mod, neg_mod};
-use numbers::{choose, greater};
+use numbers::choose;
 use poly::room::put_term;
 
 // The greatest monomial that is left of two inputs, its coefficient, and the places in both behind it.
@@ -22,7 +22,8 @@ pub struct Lead {
     pub second: usize,
 }
 
-// The record in front: its key and its coefficient, both 0 behind the last.
+// The record in front: its key and its coefficient, both 0 behind the last. They stay numbers, and no Option, since the greater key is
+// chosen without a branch (docs/DECISIONS.md, "A merge chooses without a branch").
 #[derive(Clone, Copy)]
 pub struct Front {
     pub key: u64,
@@ -30,7 +31,7 @@ pub struct Front {
 }
 
 // Merges two inputs that were found good into the room, and answers the number of terms: one more than the room holds where there
-// are more.
+// are more. It stays a count, as `Filled` says it of `expansion` too: `calls::ending::room_reply` makes the reply of it.
 pub fn merge(p: u64, a: &[u64], b: &[u64], minus: bool, room: &mut [u64]) -> usize
     requires within { (0 < p) × (p ≤ limit) × (length room.old ≡ 2 * records room.old) }
     requires valid { (Valid p a.now) × (Valid p b.now) }
@@ -76,10 +77,10 @@ fn greatest_left(p: u64, a: &[u64], b: &[u64], minus: bool, i: usize, j: usize) 
     // Which of two is greater cannot be foretold, so that it is chosen without a branch.
     let ahead = y.key < x.key;
     Lead {
-        word: greater(x.key, y.key) - 1,
+        word: x.key.max(y.key) - 1,
         coef: choose(ahead, x.coef, d),
-        first: i + choose(ahead, 1, 0) as usize,
-        second: j + choose(ahead, 0, 1) as usize,
+        first: i + usize::from(ahead),
+        second: j + usize::from(!ahead),
     }
 }
 

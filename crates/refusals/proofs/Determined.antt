@@ -7,6 +7,7 @@ use mathlib.Core.Path.{◌≡◌, sym, ◌∙◌}
 use Rattle.refusals.proofs.report.refusal.Reads as refusal
 use Rattle.refusals.proofs.report.done.Reads as done
 use Rattle.refusals.proofs.report.or_else.Reads as or_else
+use Rattle.refusals.proofs.report.Report.is_done.Reads as is_done
 use Rattle.refusals.proofs.rules.unless.Reads as unless
 use Rattle.refusals.proofs.rules.at_term.Reads as at-term
 use Rattle.refusals.proofs.rules.modulus_rule.Reads as modulus-rule
@@ -32,6 +33,12 @@ or_else-asks_nothing κs a = tt
 
 pub or_else-determined : (κs : _) (a : _) (r r' : _) (s s' : _) → or_else.Post κs a r s → or_else.Post κs a r' s' → r ≡ r'
 or_else-determined κs a r r' s s' p q = p ∙ sym q
+
+pub is_done-asks_nothing : (κs : _) (a : _) → is_done.Pre κs a
+is_done-asks_nothing κs a = tt
+
+pub is_done-determined : (κs : _) (a : _) (r r' : _) (s s' : _) → is_done.Post κs a r s → is_done.Post κs a r' s' → r ≡ r'
+is_done-determined κs a r r' s s' p q = p ∙ sym q
 
 pub unless-asks_nothing : (κs : _) (a : _) → unless.Pre κs a
 unless-asks_nothing κs a = tt

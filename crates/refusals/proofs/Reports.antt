@@ -1,5 +1,6 @@
 -- Laws of reports.
 --
+--   done_number, refused_number    a report that is done has the number 0, and one that is not has another
 --   chain                          one link of an ordered fold of rules
 --   passed_append, append_passed   of two lists of reports, one after the other
 --   fold_passed                    a fold that refuses nothing: every report of it passed, and the last
@@ -22,6 +23,13 @@ use borrow.Author.Tests.{eqb-true, eqb-false, eq-eqb, ne_eqb}
 use Rattle.algebra.specs.Residues.{pick}
 use Rattle.refusals.specs.Reports.{or_else, first_or, Passed}
 use Rattle.refusals.specs.declared.report.Report.{Report}
+
+module _ (r : Report) {t : Bool} (e : t ≡ eqb r.number 0) where
+  pub done_number : t ≡ true → r.number ≡ 0
+  done_number h = eqb-true r.number 0 (sym e ∙ h)
+
+  pub refused_number : t ≡ false → r.number ≡ 0 → ⊥
+  refused_number h = eqb-false r.number 0 (sym e ∙ h)
 
 pub chain : {t q q' s s' : Report} → t ≡ or_else q s → q ≡ q' → s ≡ s' → t ≡ or_else q' s'
 chain e f g = e ∙ (λ d. or_else (f d) (g d))

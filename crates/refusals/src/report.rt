@@ -1,12 +1,14 @@
 // The report that every call on polynomials answers.
-ghost use Rattle.std.specs.Prelude.{◌≡◌};
+ghost use Rattle.std.specs.Prelude.{◌≡◌, eqb};
+ghost use Rattle.reasons.specs.Reasons.{number_of};
 ghost use Rattle.refusals.specs.Reports.{refusal, done, or_else};
 
 use numbers::choose;
+use reasons::Reason;
 
 // The number, the operand that it blames, a term index, and the terms of the first and the second output.
 #[repr(C)]
-#[derive(Clone, Copy)]
+#[derive(Clone, Copy, Debug, Default, PartialEq, Eq)]
 pub struct Report {
     pub number: u64,
     pub operand: u64,
@@ -16,15 +18,14 @@ pub struct Report {
 }
 
 // A refusal of an operand at a term.
-pub fn refusal(number: u64, operand: u64, index: u64) -> Report
-    ensures { result ≡ refusal number operand index }
+pub fn refusal(reason: Reason, operand: u64, index: u64) -> Report
+    ensures { result ≡ refusal (number_of reason) operand index }
 {
     Report {
-        number,
+        number: reason.number(),
         operand,
         index,
-        first: 0,
-        second: 0,
+        ..Report::default()
     }
 }
 
@@ -33,20 +34,27 @@ pub fn done(first: u64, second: u64) -> Report
     ensures { result ≡ done first second }
 {
     Report {
-        number: 0,
-        operand: 0,
-        index: 0,
         first,
         second,
+        ..Report::default()
     }
 }
 
-// The first of two reports if it refuses, else the second. It is chosen number by number: a struct that is chosen as a whole is copied
-// through memory, and a call asks for some twenty refusals.
+impl Report {
+    // Reply 0: nothing is refused.
+    pub fn is_done(self) -> bool
+        ensures { result ≡ eqb self.number 0 }
+    {
+        self.number == 0
+    }
+}
+
+// The first of two reports if it refuses, else the second. It is chosen number by number, and stays so: a struct that is chosen as a
+// whole is copied through memory, and a call asks for some twenty refusals (docs/DECISIONS.md has the figures).
 pub fn or_else(a: Report, b: Report) -> Report
     ensures { result ≡ or_else a b }
 {
-    let passed = a.number == 0;
+    let passed = a.is_done();
     Report {
         number: choose(passed, b.number, a.number),
         operand: choose(passed, b.operand, a.operand),

@@ -4,7 +4,10 @@
 --   profile_of p s        the profile of a slice beside that report; zero where the report refuses
 --   run_of s power        where the terms with this power of x lie, in words of the slice
 --   words_from part s     the words of that part
-use Rattle.std.specs.Prelude.{ℕ, ◌*◌, ◌-◌, Bool, true, false, not, ◌&&◌, List, [], ◌∷◌, ◌++◌, eqb, ltb, take, drop}
+--   starts s power        the first term with this power, or the number of terms
+--   ends s power from     the first term from one on without it, or the number of terms
+--   within i n            the number i, where it is one of n things
+use Rattle.std.specs.Prelude.{ℕ, ◌*◌, ◌-◌, Bool, not, ◌&&◌, List, [], ◌∷◌, ◌++◌, eqb, ltb, take, drop, Option, Some, None}
 use Rattle.algebra.specs.Residues.{pick, first}
 use Rattle.monomial.specs.Layout.{base, exponent_of}
 use Rattle.poly.specs.Words.{records, word_at}
@@ -35,10 +38,17 @@ profile_of p s =
 
 -- The run
 
--- whether a monomial word has this power of x, or whether it has not
-abbrev pub power_is : Bool → ℕ → ℕ → Bool
-power_is true power word = eqb (exponent_of base word 0) power
-power_is false power word = not (eqb (exponent_of base word 0) power)
+-- whether a monomial word has this power of x
+abbrev pub has_power : ℕ → ℕ → Bool
+has_power power word = eqb (exponent_of base word 0) power
+
+-- the first term with this power, or the number of terms
+abbrev pub starts : List ℕ → ℕ → ℕ
+starts s power = first (λ i. has_power power (word_at s i)) 0 (records s)
+
+-- the first term from one on without it, or the number of terms
+abbrev pub ends : List ℕ → ℕ → ℕ → ℕ
+ends s power from = first (λ i. not (has_power power (word_at s i))) from (records s - from)
 
 -- none of 2, 3, 4 and 5 is due
 unfoldable pub in_order : List ℕ → Bool
@@ -47,11 +57,15 @@ in_order s = eqb (first_or (shape_rules (as_input s ∷ []) ++ order_rules base 
 -- from the first term with this power to the first after it without; the empty part at the front where there is none
 unfoldable pub run_of : List ℕ → ℕ → Part
 run_of s power =
-    let start = first (λ i. power_is true power (word_at s i)) 0 (records s) in
-    let end = first (λ i. power_is false power (word_at s i)) start (records s - start) in
+    let start = starts s power in
+    let end = ends s power start in
     pick (in_order s && ltb start (records s))
     (record { start = 2 * start; end = 2 * end })
     (record { start = 0; end = 0 })
+
+-- the number i of one of n things
+abbrev pub within : ℕ → ℕ → Option ℕ
+within i n = pick (ltb i n) (Some i) None
 
 -- the words of a slice from one place up to another
 abbrev pub words_from : Part → List ℕ → List ℕ

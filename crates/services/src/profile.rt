@@ -7,7 +7,7 @@ use poly::profile::{Profile, measure};
 use refusals::report::Report;
 
 #[repr(C)]
-#[derive(Clone, Copy)]
+#[derive(Clone, Copy, Debug, PartialEq, Eq)]
 pub struct Profiled {
     pub report: Report,
     pub profile: Profile,
@@ -18,15 +18,10 @@ pub fn profile_of(p: u64, s: &[u64]) -> Profiled
     ensures { result ≡ profile_of p s.now }
 {
     let report = check(p, s);
-    if report.number == 0 {
-        let profile = measure(s);
-        Profiled { report, profile }
+    let profile = if report.is_done() {
+        measure(s)
     } else {
-        let profile = Profile {
-            terms: 0,
-            exponents: [0, 0, 0, 0],
-            total: 0,
-        };
-        Profiled { report, profile }
-    }
+        Profile::default()
+    };
+    Profiled { report, profile }
 }

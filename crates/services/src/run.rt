@@ -1,16 +1,14 @@
 // The run of one power of x: in lexicographic order its terms lie side by side.
-ghost use Rattle.std.specs.Prelude.{◌≡◌, ◌+◌, ◌-◌, ◌*◌, ◌≤◌};
-ghost use Rattle.algebra.specs.Residues.{first};
-ghost use Rattle.poly.specs.Words.{records, word_at};
-ghost use Rattle.services.specs.Services.{power_is, in_order, run_of, words_from};
+ghost use Rattle.std.specs.Prelude.{◌≡◌, ◌+◌, ◌*◌, ◌≤◌};
+ghost use Rattle.poly.specs.Words.{records};
+ghost use Rattle.services.specs.Services.{within, starts, ends, in_order, run_of, words_from};
 
 use dues::Due;
-use refusals::report::{done, or_else};
 use refusals::rules::INPUT_TERMS;
 
 // A part of a slice, from one word up to another.
 #[repr(C)]
-#[derive(Clone, Copy)]
+#[derive(Clone, Copy, Debug, Default, PartialEq, Eq)]
 pub struct Part {
     pub start: usize,
     pub end: usize,
@@ -22,9 +20,7 @@ pub fn run(s: &[u64], power: u64) -> &[u64]
         × (result.ref_ptr ≡ (s.entry.ref_ptr.0, s.entry.ref_ptr.1 + 8 * (run_of s.now power).start)) }
 {
     let part = run_part(s, power);
-    let start = part.start;
-    let end = part.end;
-    &s[start..end]
+    &s[part.start..part.end]
 }
 
 // Where that part lies.
@@ -32,16 +28,14 @@ pub fn run_part(s: &[u64], power: u64) -> Part
     ensures { result ≡ run_of s.now power }
 {
     if !in_order(s) {
-        return Part { start: 0, end: 0 };
+        return Part::default();
     }
-    let start = scan_power(s, power, true, 0);
-    if s.len() / 2 <= start {
-        return Part { start: 0, end: 0 };
-    }
-    let end = scan_power(s, power, false, start);
+    let Some(start) = first_with(s, power) else {
+        return Part::default();
+    };
     Part {
         start: 2 * start,
-        end: 2 * end,
+        end: 2 * first_without(s, power, start),
     }
 }
 
@@ -50,34 +44,23 @@ fn in_order(s: &[u64]) -> bool
     ensures { result ≡ in_order s.now }
 {
     let due = Due::none().input(0, 1, INPUT_TERMS, s);
-    let order = or_else(due.order, done(0, 0));
-    let guard = or_else(due.guard, order);
-    let long = or_else(due.long, guard);
-    or_else(due.odd, long).number == 0
+    due.odd.is_done() && due.long.is_done() && due.guard.is_done() && due.order.is_done()
 }
 
-// The first term from a given one on that has the power, or that has it not; the number of terms where there is none.
-fn scan_power(s: &[u64], power: u64, wanted: bool, from: usize) -> usize
+// The first term with the power.
+fn first_with(s: &[u64], power: u64) -> Option<usize>
+    ensures { result ≡ within (starts s.now power) (records s.now) }
+{
+    (0..s.len() / 2).find(|&i| monomial::exponent(s[2 * i], 0) == power)
+}
+
+// The first term from a given one on without it, or the number of terms.
+fn first_without(s: &[u64], power: u64, from: usize) -> usize
     requires { from ≤ records s.now }
-    ensures { result ≡ first (λ i. power_is wanted power (word_at s.now i)) from (records s.now - from) }
+    ensures { result ≡ ends s.now power from }
 {
-    let n = s.len() / 2;
-    let mut i = from;
-    while i < n {
-        if power_is(wanted, power, s[2 * i]) {
-            return i;
-        }
-        i += 1;
-    }
-    i
-}
-
-fn power_is(wanted: bool, power: u64, word: u64) -> bool
-    ensures { result ≡ power_is wanted power word }
-{
-    if wanted {
-        monomial::exponent(word, 0) == power
-    } else {
-        monomial::exponent(word, 0) != power
-    }
+    let terms = s.len() / 2;
+    (from..terms)
+        .find(|&i| monomial::exponent(s[2 * i], 0) != power)
+        .unwrap_or(terms)
 }

@@ -12,7 +12,7 @@ use crate::tables::{
     Q3, Q8, R3, ZERO,
 };
 use crate::text::{print_head, print_verdict, write};
-use refusals::report::{Report, done, refusal};
+use refusals::report::{Report, done};
 
 const CASES: u64 = 35;
 
@@ -135,7 +135,11 @@ fn row_13(n: u64) -> bool {
 fn stop(number: u64, operand: u64) -> Report
     ensures { result ≡ refusal number operand 0 }
 {
-    refusal(number, operand, 0)
+    Report {
+        number,
+        operand,
+        ..Report::default()
+    }
 }
 
 // Row 11 on random polynomials.

@@ -2,7 +2,7 @@
 --
 --   result                             the sum or the difference in its normal form
 --   result_coded                       its words are the normal form of what was unmerged at the start
---   combine-ends                       a merge that was left with its reply ends as the call does
+--   combine-ends                       a merge whose room was left by its end, and told, ends as the call does
 --   combine-refused, combine_goes_on   a call with a refusal due, and with none
 use Prim.Native.Nat.{ℕ, ◌-◌, ◌<◌}
 use mathlib.Core.Path.{◌≡◌, refl, sym, ◌∙◌, ap}
@@ -24,7 +24,11 @@ use Rattle.refusals.specs.declared.report.Report.{Report}
 use Rattle.refusals.specs.Reports.{none, first_or}
 use Rattle.calls.specs.Inputs.{two_inputs}
 use Rattle.calls.specs.Outcomes.{Outcome, outcome, told, ended, room_reply}
-use Rattle.calls.specs.Endings.{kept, Filled}
+use Rattle.calls.specs.Endings.{kept, left, roomed, told_of, Filled}
+use Rattle.calls.proofs.Told.{left-roomed, told-roomed}
+use Rattle.std.proofs.Common.{Option, Result}
+use Rattle.std.specs.Result.{result_ok, result_map_both}
+use Rattle.reasons.specs.declared.Reason.{Reason}
 use Rattle.calls.proofs.Refusals.{refused_tells, passed_goes_on}
 use Rattle.calls.proofs.Rooms.{Written, written_count, kept-holds, holding-none, ended_by, filled-reply, filled_written}
 use Rattle.merging.specs.Merging.{unmerged}
@@ -52,16 +56,23 @@ module _ (p : ℕ) (minus : Bool) (a b : List ℕ) (pos : 0 < p) (v : Valid p a)
       ∙ (λ d. valid_coded p a v d ++ (signed_coded minus g ∙ ap (signed p minus) (valid_coded p b w)) d)
       ∙ (λ d. span a 0 (all (records a) d) ++ signed p minus (span b 0 (all (records b) d))))
 
-  -- the reply, the room and the report of a merge that counted n terms
-  pub combine-ends : (room room₁ room₂ : List ℕ) (n reply : ℕ) (r : Report) → length room₁ ≡ length room →
-      Filled p (unmerged p minus a b 0 0) room room₁ n → reply ≡ room_reply n room₁ → room₂ ≡ kept reply n room₁ → r ≡ told reply n 0 →
+  -- the room and the report of a merge that counted n terms: o is what the room was left with, and m what was told
+  pub combine-ends : (room room₁ room₂ : List ℕ) (n : ℕ) (end : Result ℕ Reason) (o : Option ℕ) (m : Result (ℕ × ℕ) Reason) {r : Report} →
+      length room₁ ≡ length room → Filled p (unmerged p minus a b 0 0) room room₁ n → end ≡ roomed n room₁ → o ≡ result_ok end → room₂ ≡ left o room₁ →
+      m ≡ result_map_both (λ k. (k, 0)) (λ reason. reason) end → r ≡ told_of m →
       outcome r room₂ [] [] ≡ ended (room_reply (length (result p minus a b)) room) (result p minus a b) [] room [] []
-  combine-ends room room₁ room₂ n reply r same F er el et =
+  combine-ends room room₁ room₂ n end o m {r} same F e eo el em et =
       let f = result p minus a b in
-      let W : reply ≡ 0 → Written f room₁ n = λ z. filled_written p f (unmerged p minus a b 0 0) result_coded room room₁ n F same (sym er ∙ z) in
-      ended_by reply f [] room [] [] r room₂ [] [] n 0 et (λ z. written_count (W z)) (λ z. refl)
-      (kept-holds reply f room room₁ room₂ n same W el) (sym (holding-none reply)) refl
-      ∙ ap (λ (x : ℕ). ended x f [] room [] []) (er ∙ filled-reply p f (unmerged p minus a b 0 0) result_coded room room₁ n F same)
+      let whole = unmerged p minus a b 0 0 in
+      let reply = room_reply n room₁ in
+      let W : reply ≡ 0 → Written f room₁ n = filled_written p f whole result_coded room room₁ n F same in
+      let report : r ≡ told reply n 0 =
+      et ∙ ap told_of em ∙ ap (λ (x : Result ℕ Reason). told_of (result_map_both (λ k. (k, 0)) (λ reason. reason) x)) e ∙ told-roomed n room₁ (λ k. k) (λ k. 0) in
+      let kept_room : room₂ ≡ kept reply n room₁ =
+      el ∙ ap (λ (x : Option ℕ). left x room₁) eo ∙ ap (λ (x : Result ℕ Reason). left (result_ok x) room₁) e ∙ left-roomed n room₁ room₁ in
+      ended_by reply f [] room [] [] r room₂ [] [] n 0 report (λ z. written_count (W z)) (λ z. refl)
+      (kept-holds reply f room room₁ room₂ n same W kept_room) (sym (holding-none reply)) refl
+      ∙ ap (λ (x : ℕ). ended x f [] room [] []) (filled-reply p f whole result_coded room room₁ n F same)
 
 -- The call: refused, or merged
 

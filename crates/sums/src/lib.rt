@@ -5,13 +5,14 @@ ghost use Rattle.std.specs.Prelude.{◌≡◌, []};
 ghost use Rattle.calls.specs.Outcomes.{outcome};
 ghost use Rattle.sums.specs.Sums.{sum_of, difference_of, combined_of};
 
-use calls::ending::{leave, report_of, room_reply};
+use calls::ending::{leave, room_reply, told};
 use calls::inputs::two_inputs;
 use merging::merge;
 use refusals::report::{Report, done};
 use refusals::rules::ROOM_TERMS;
 
 // The sum of two polynomials.
+#[tactic(auto, unfolding(crate::specs::Sums::sum_of))]
 pub fn sum(p: u64, a: &[u64], b: &[u64], room: &mut [u64]) -> Report
     ensures { outcome result room.new [] [] ≡ sum_of p a.now b.now room.old }
 {
@@ -19,6 +20,7 @@ pub fn sum(p: u64, a: &[u64], b: &[u64], room: &mut [u64]) -> Report
 }
 
 // The difference of two polynomials.
+#[tactic(auto, unfolding(crate::specs::Sums::difference_of))]
 pub fn difference(p: u64, a: &[u64], b: &[u64], room: &mut [u64]) -> Report
     ensures { outcome result room.new [] [] ≡ difference_of p a.now b.now room.old }
 {
@@ -32,11 +34,10 @@ fn combine(p: u64, a: &[u64], b: &[u64], minus: bool, room: &mut [u64]) -> Repor
     let due = two_inputs(p, a, b)
         .room(3, ROOM_TERMS, room)
         .first(p, done(0, 0));
-    if due.number != 0 {
+    if !due.is_done() {
         return due;
     }
-    let n = merge(p, a, b, minus, room);
-    let reply = room_reply(n, room);
-    leave(room, reply, n);
-    report_of(reply, n, 0)
+    let end = room_reply(merge(p, a, b, minus, room), room);
+    leave(room, end.ok());
+    told(end.map(|n| (n, 0)))
 }

@@ -1,19 +1,20 @@
 -- `sums::combine` meets its contract: refused, or merged and left with its reply.
-use mathlib.Core.Path.{◌≡◌, sym, ◌∙◌, ap}
+use mathlib.Core.Path.{◌≡◌, ◌∙◌, ap}
 use mathlib.Core.List.{[], ◌∷◌}
 use lib.ListN.{length}
 use borrow.Author.Rules.{rules}
 use Rattle.refusals.specs.Reports.{none, first_or}
 use Rattle.refusals.specs.Rules.{lent, room_terms}
+use Rattle.refusals.proofs.Reports.{done_number, refused_number}
 use Rattle.dues.specs.Dues.{with_room}
 use Rattle.dues.specs.declared.Due.{Due}
 use Rattle.refusals.proofs.Accepted.{Shaped, Each}
 use Rattle.calls.specs.Inputs.{two_inputs}
 use Rattle.calls.proofs.Refusals.{asked, Good, rules_good}
-use Rattle.calls.proofs.Rooms.{room_within}
+use Rattle.std.specs.Result.{result_map_both}
 use Rattle.sums.proofs.Combining.{combine-ends, combine-refused, combine_goes_on}
 use Rattle.sums.proofs.combine.Goals as goal
-use Rattle.sums.proofs.combine.Goals.{After-first-due, Else-due-ne0}
+use Rattle.sums.proofs.combine.Goals.{After-first-due, Else-not-is_done}
 
 -- what was asked of the slices is the first of the rules that is due
 due : (c : After-first-due) → let s = c.args in c.first-due.result ≡ first_or (two_inputs s.p s.a.now s.b.now s.room.now) none
@@ -25,33 +26,33 @@ due c =
     c.first-due.ensures
     ∙ ap (first_or (two_inputs s.p s.a.now s.b.now s.room.now)) c.done.ensures
 
-pub returns-then-due-ne0 : goal.returns-then-due-ne0
-returns-then-due-ne0 c =
+pub returns-then-not-is_done : goal.returns-then-not-is_done
+returns-then-not-is_done c =
     let s = c.args in
-    combine-refused _ s.minus s.a.now s.b.now s.room.now _ (due (goal.at.returns-then-due-ne0 c).After-first-due) c.if-due-ne0.true
+    combine-refused _ s.minus s.a.now s.b.now s.room.now _ (due (goal.at.returns-then-not-is_done c).After-first-due)
+    (refused_number c.first-due.result c.is_done.ensures c.if-not-is_done.true)
 
-good : (c : Else-due-ne0) → let s = c.args in
+good : (c : Else-not-is_done) → let s = c.args in
     Good s.p s.a.now s.b.now × Each (λ x. Shaped x) (lent 3 s.room.now room_terms ∷ []) × (none.number ≡ 0)
 good c =
     let s = c.args in
-    rules_good s.p s.a.now s.b.now (lent 3 s.room.now room_terms ∷ []) _ none (due (goal.at.Else-due-ne0 c).After-first-due) c.if-due-ne0.false
+    rules_good s.p s.a.now s.b.now (lent 3 s.room.now room_terms ∷ []) _ none (due (goal.at.Else-not-is_done c).After-first-due)
+    (done_number c.first-due.result c.is_done.ensures c.if-not-is_done.false)
 
-pub merge-n-requires : goal.merge-n-requires
-merge-n-requires c =
-    let g = good (goal.at.merge-n-requires c).Else-due-ne0 in record {
+pub merge-requires : goal.merge-requires
+merge-requires c =
+    let g = good (goal.at.merge-requires c).Else-not-is_done in record {
       within = (g.0.positive, g.0.within, g.1.0.even);
       valid = (g.0.first, g.0.second);
     }
 
-pub leave-requires : goal.leave-requires
-leave-requires c =
-    λ z. room_within _ c.merge-n.new.room (sym c.room_reply-reply.ensures ∙ z)
-
 pub returns : goal.returns
 returns c =
     let s = c.args in
-    let g = (good (goal.at.returns c).Else-due-ne0).0 in
-    let same : length c.merge-n.new.room ≡ length s.room.now = search rules in
-    combine_goes_on _ s.minus s.a.now s.b.now s.room.now _ (due (goal.at.returns c).After-first-due) c.if-due-ne0.false _
-    (combine-ends _ s.minus s.a.now s.b.now g.positive g.first g.second s.room.now _ _ _ _ _ same
-    c.merge-n.ensures c.room_reply-reply.ensures c.leave.ensures c.report_of.ensures)
+    let g = (good (goal.at.returns c).Else-not-is_done).0 in
+    let made : c.map.result ≡ result_map_both (λ n. (n, 0)) (λ reason. reason) c.room_reply-end.result = search rules in
+    let same : length c.merge.new.room ≡ length s.room.now = search rules in
+    combine_goes_on _ s.minus s.a.now s.b.now s.room.now _ (due (goal.at.returns c).After-first-due)
+    (done_number c.first-due.result c.is_done.ensures c.if-not-is_done.false) _
+    (combine-ends _ s.minus s.a.now s.b.now g.positive g.first g.second s.room.now _ _ _ _ _ _ same
+    c.merge.ensures c.room_reply-end.ensures c.ok.ensures.value c.leave.ensures made c.told.ensures)
