@@ -11,7 +11,7 @@ use field::Value;
 const GUARDS: u64 = 0x8000800080008000;
 
 // The largest exponent.
-const LARGEST: u64 = 32767;
+pub const LARGEST: u64 = 32767;
 
 // What unpacking answers: reply 0 and the exponents of x, y, z and t, or the number of a refusal and zeros.
 #[repr(C)]
