@@ -4,11 +4,11 @@
 --   burst-found             the first letter that bursts, by the exponents that the engine measured
 --   burst_some              a letter that bursts, where the first is one of the four
 --   no_burst, products-fit  where no letter bursts, every product of monomials fits
---   burst_is_some           an answer tells whether the first letter that bursts is one of the four
+--   one_bursts, none_bursts  what an answer tells of the first letter that bursts
 --   burst_comm              the factors may change places
 --   sides                   two valid slices as rows and columns of a tree
 use Prim.Native.Nat.{ℕ, zero, suc, ◌+◌, ◌^◌, ◌≤◌, ◌<◌}
-use mathlib.Core.Path.{◌≡◌, refl, sym, ap, subst}
+use mathlib.Core.Path.{◌≡◌, refl, sym, ◌∙◌, ap, subst}
 use mathlib.Core.Bool.{Bool, true, false}
 use mathlib.Core.List.{List, [], ◌∷◌}
 use native.Mathlib.Nat.{add_comm}
@@ -102,12 +102,19 @@ module _ (f g : Poly (Letters 4)) where
   pub burst_some : burst_at f g < 4 → 32767 < largest (exponent 4 (burst_at f g)) f + largest (exponent 4 (burst_at f g)) g
   burst_some h = ltb-true 32767 _ (first_hit (bursts f g) 0 4 h)
 
-pub burst_is_some : (f g : Poly (Letters 4)) → is_some (first_burst f g) ≡ ltb (burst_at f g) 4
-burst_is_some f g = go (ltb (burst_at f g) 4)
-  where
-    go : (b : Bool) → is_some (pick b (Some (burst_at f g)) None) ≡ b
-    go true = refl
-    go false = refl
+module _ (f g : Poly (Letters 4)) (r : Option ℕ) (e : r ≡ first_burst f g) where
+  first_is_some : is_some r ≡ ltb (burst_at f g) 4
+  first_is_some = ap is_some e ∙ go (ltb (burst_at f g) 4)
+    where
+      go : (b : Bool) → is_some (pick b (Some (burst_at f g)) None) ≡ b
+      go true = refl
+      go false = refl
+
+  pub one_bursts : is_some r ≡ true → burst_at f g < 4
+  one_bursts h = ltb-true (burst_at f g) 4 (sym first_is_some ∙ h)
+
+  pub none_bursts : is_some r ≡ false → 4 ≤ burst_at f g
+  none_bursts h = ltb-false (burst_at f g) 4 (sym first_is_some ∙ h)
 
 pub burst_comm : (f g : Poly (Letters 4)) → burst_at f g ≡ burst_at g f
 burst_comm f g =
