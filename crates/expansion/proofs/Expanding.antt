@@ -20,14 +20,14 @@ use Rattle.tree.proofs.Planting.{awaited_below}
 abbrev pub waiting : List ℕ → List ℕ → List ℕ → Poly Numbers
 waiting rows cols w = awaited rows cols w 0 (records rows)
 
-pub taken-step : (p : ℕ) (rows cols : List ℕ) → ((i : ℕ) → suc i < records cols → word_at cols (suc i) < word_at cols i) → (w w' : List ℕ) (c : ℕ) →
-    Taken p rows cols (word_at w 1) w w' c → Step p (waiting rows cols w) (word_at w 1 - 1) c (waiting rows cols w')
-taken-step p rows cols falls w w' c t =
-    let low : word_at w' 1 < word_at w 1 = t.lower falls (omega arith) in
+pub taken-step : (p : ℕ) (rows cols : List ℕ) → ((i : ℕ) → suc i < records cols → word_at cols (suc i) < word_at cols i) → (w w' : List ℕ) (k c : ℕ) →
+    k ≡ word_at w 1 → Taken p rows cols k w w' c → Step p (waiting rows cols w) (k - 1) c (waiting rows cols w')
+taken-step p rows cols falls w w' k c e t =
+    let low : word_at w' 1 < k = t.lower falls (omega arith) in
     record {
       small = t.small;
       sums = t.sums;
-      lower = awaited_below rows cols w' t.live falls (word_at w 1 - 1) (omega arith);
+      lower = awaited_below rows cols w' t.live falls (k - 1) (omega arith);
     }
 
 pub nothing_filled : (p : ℕ) (rows cols room : List ℕ) → records rows ≡ 0 →

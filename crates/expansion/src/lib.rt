@@ -11,35 +11,25 @@ ghost use Rattle.poly.specs.Valid.{Valid};
 ghost use Rattle.refusals.specs.Rules.{input_terms};
 ghost use Rattle.calls.specs.Endings.{Filled};
 ghost use Rattle.tree.specs.Tree.{awaited, Live, Sides};
-ghost use Rattle.expansion.specs.Bursts.{burst_at};
+ghost use Rattle.expansion.specs.Bursts.{first_burst};
 
+use monomial::LARGEST;
 use poly::profile::measure;
 use poly::room::put_term;
-use tree::{start, take};
+use tree::{Node, start, take};
 
-// The largest exponent, and the number of letters.
-const LARGEST: u64 = 32767;
-
-const LETTERS: usize = 4;
-
-// The first letter in which the largest exponents of two polynomials add up to more than the largest exponent; 4 where there is none.
-pub fn burst_at(f: &[u64], g: &[u64]) -> usize
+// The first letter in which the largest exponents of two polynomials add up to more than the largest exponent.
+pub fn burst_at(f: &[u64], g: &[u64]) -> Option<usize>
     requires { ((v : ℕ) → largest (exponent 4 v) (poly_of base f.now) < 2 ^ 16) × ((v : ℕ) → largest (exponent 4 v) (poly_of base g.now) < 2 ^ 16) }
-    ensures { result ≡ burst_at (poly_of base f.now) (poly_of base g.now) }
+    ensures { result ≡ first_burst (poly_of base f.now) (poly_of base g.now) }
 {
     let a = measure(f).exponents;
     let b = measure(g).exponents;
-    let mut v = 0;
-    while v < LETTERS {
-        if LARGEST < a[v] + b[v] {
-            return v;
-        }
-        v += 1;
-    }
-    v
+    a.iter().zip(&b).position(|(x, y)| LARGEST < x + y)
 }
 
-// Writes the product into the room, and answers the number of its terms: one more than the room holds where there are more.
+// Writes the product into the room, and answers the number of its terms: one more than the room holds where there are more. It is a
+// number past the room, and no error, since `Filled` says it so of sums and products; `room_reply` makes the answer of it.
 pub fn expand(p: u64, rows: &[u64], cols: &[u64], room: &mut [u64], work: &mut [u64]) -> usize
     requires within { (0 < p) × (p ≤ limit) × (records rows.now ≤ records cols.now) × (records cols.now ≤ input_terms) }
     requires lent { (4 * records rows.now ≤ length work.old) × (Valid p rows.now) × (Valid p cols.now) }
@@ -63,8 +53,8 @@ fn fill(p: u64, rows: &[u64], cols: &[u64], room: &mut [u64], work: &mut [u64]) 
         room.old room.new result }
 {
     let mut n = 0;
-    while work[2] != 0 {
-        let k = work[2];
+    let mut k = Node::at(work, 1).key;
+    while k != 0 {
         let c = take(p, rows, cols, work, k);
         if c != 0 {
             if n == room.len() / 2 {
@@ -73,6 +63,7 @@ fn fill(p: u64, rows: &[u64], cols: &[u64], room: &mut [u64], work: &mut [u64]) 
             put_term(room, n, k - 1, c);
             n += 1;
         }
+        k = Node::at(work, 1).key;
     }
     n
 }

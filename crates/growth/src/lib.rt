@@ -20,12 +20,8 @@ fn move_leaves(work: &mut [u64], count: usize, more: usize)
     requires { (count ≤ more) × (4 * more ≤ length work.old) }
     ensures { Moved count more work.old 0 work.new }
 {
-    let mut row = more;
-    while 0 < row {
-        row -= 1;
-        let leaf = leaf_of(work, count, row);
-        work[2 * (more + row)] = leaf.key;
-        work[2 * (more + row) + 1] = leaf.tag;
+    for row in (0..more).rev() {
+        leaf_of(work, count, row).put(work, more + row);
     }
 }
 
@@ -35,10 +31,7 @@ fn leaf_of(work: &[u64], count: usize, row: usize) -> Node
     ensures { LeafOf count work.now row result }
 {
     if row < count {
-        Node {
-            key: work[2 * (count + row)],
-            tag: work[2 * (count + row) + 1],
-        }
+        Node::at(work, count + row)
     } else {
         Node { key: 0, tag: 0 }
     }

@@ -9,9 +9,14 @@ use mathlib.Core.Path.{◌≡◌, refl, sym, ◌∙◌, ap}
 use mathlib.Core.Bool.{Bool}
 use mathlib.Core.List.{List, [], ◌∷◌}
 use native.Mathlib.Omega.{arith}
-use lib.Dec.{ltb}
+use lib.Dec.{ltb, leb}
 use lib.ListN.{length}
 use borrow.Author.Tests.{lt-ltb, le-ltb}
+use Rattle.std.proofs.Common.{true, false, None, Result, Ok, Err}
+use Rattle.std.proofs.lemmas.Result.{MatchResult-at_ok, MatchResult-at_err}
+use Rattle.std.specs.Result.{MatchResult, result_ok}
+use Rattle.reasons.specs.declared.Reason.{Reason}
+use Rattle.reasons.specs.declared.Reason.TheVariants.{BigExponent, NoRoom}
 use Rattle.algebra.specs.Residues.{pick}
 use Rattle.algebra.specs.Monomials.{Letters, Numbers}
 use Rattle.algebra.specs.Orders.{Lex, Rising}
@@ -30,7 +35,7 @@ use Rattle.refusals.proofs.Reports.{fold_append, fold_passed}
 use Rattle.refusals.proofs.Accepted.{work_passed}
 use Rattle.calls.specs.Inputs.{two_inputs}
 use Rattle.calls.specs.Outcomes.{Outcome, outcome, told, ended, room_reply}
-use Rattle.calls.specs.Endings.{kept, Filled}
+use Rattle.calls.specs.Endings.{kept, left, roomed, told_of, Filled}
 use Rattle.calls.proofs.Refusals.{refused_tells, passed_goes_on}
 use Rattle.calls.proofs.Rooms.{Written, written_count, kept-holds, holding-none, ended_by, filled-reply, filled_written}
 use Rattle.expansion.specs.Bursts.{burst_at}
@@ -51,7 +56,7 @@ module _ (p : ℕ) (rows cols room work : List ℕ) where
   abbrev by_reply : ℕ → Outcome
   by_reply reply = ended reply whole [] room [] work
 
-  pub ends_burst : burst_at first second < 4 → (o : Outcome) → o ≡ outcome (told 9 0 0) (kept 9 0 room) [] (cleared work) → o ≡ multiplied p rows cols room work
+  pub ends_burst : burst_at first second < 4 → (o : Outcome) → o ≡ outcome (told_of (Err BigExponent)) (left None room) [] (cleared work) → o ≡ multiplied p rows cols room work
   unfolding multiplied
   ends_burst h o e =
       e ∙ ap (λ (b : Bool). by_reply (pick b 9 (room_reply (length whole) room))) (sym (lt-ltb (burst_at first second) 4 h))
@@ -66,17 +71,25 @@ module _ (p : ℕ) (rows cols room work : List ℕ) where
         coded_norm p pos (mul first second) (products-fit first second h)
         ∙ ap (norm Rising p) (coded_mul first second ∙ (λ d. mul (valid_coded p rows vr d) (valid_coded p cols vc d)))
 
-    pub ends-filled : (s : List ℕ) (n reply : ℕ) → length s ≡ length room → Filled p products room s n → reply ≡ room_reply n s → (o : Outcome) →
-        o ≡ outcome (told reply n 0) (kept reply n s) [] (cleared work) → o ≡ multiplied p rows cols room work
+    -- what an end of counted terms is in numbers
+    in_numbers : (n : ℕ) (s : List ℕ) (b : Bool) (e : Result ℕ Reason) (m : Result (ℕ × ℕ) Reason) → e ≡ pick b (Ok n) (Err NoRoom) →
+        MatchResult e (λ k. m ≡ Ok (k, 0)) (λ d. m ≡ Err d) → (told_of m ≡ told (pick b 0 10) n 0) × (left (result_ok e) s ≡ kept (pick b 0 10) n s)
+    in_numbers n s true e m f k = (ap told_of (MatchResult-at_ok _ _ n f k), ap (λ (x : Result ℕ Reason). left (result_ok x) s) f)
+    in_numbers n s false e m f k = (ap told_of (MatchResult-at_err _ _ NoRoom f k), ap (λ (x : Result ℕ Reason). left (result_ok x) s) f)
+
+    pub ends-filled : (s : List ℕ) (n : ℕ) → length s ≡ length room → Filled p products room s n → (e : Result ℕ Reason) → e ≡ roomed n s →
+        (m : Result (ℕ × ℕ) Reason) → MatchResult e (λ k. m ≡ Ok (k, 0)) (λ d. m ≡ Err d) → (o : Outcome) →
+        o ≡ outcome (told_of m) (left (result_ok e) s) [] (cleared work) → o ≡ multiplied p rows cols room work
     unfolding multiplied
-    ends-filled s n reply same F er o e =
-        let W : reply ≡ 0 → Written whole s n = λ z. filled_written p whole products product_coded room s n F same (sym er ∙ z) in
-        e
+    ends-filled s n same F e er m k o eo =
+        let reply = room_reply n s in
+        let t = in_numbers n s (leb n (records s)) e m er k in
+        let W : reply ≡ 0 → Written whole s n = λ z. filled_written p whole products product_coded room s n F same z in
+        eo ∙ (λ d. outcome (t.0 d) (t.1 d) [] (cleared work))
         ∙ ended_by reply whole [] room [] work _ _ [] _ n 0 refl (λ z. written_count (W z)) (λ z. refl)
         (kept-holds reply whole room s _ n same W refl) (sym (holding-none reply)) refl
         ∙ ap by_reply
-        (er
-        ∙ filled-reply p whole products product_coded room s n F same
+        (filled-reply p whole products product_coded room s n F same
         ∙ ap (λ (b : Bool). pick b 9 (room_reply (length whole) room)) (sym (le-ltb (burst_at first second) 4 h)))
 
 pub factors_exchanged : (p : ℕ) → 0 < p → (a b room work : List ℕ) → multiplied p a b room work ≡ multiplied p b a room work

@@ -3,30 +3,26 @@
 
 ghost use Rattle.std.specs.Prelude.{◌≡◌, [], ◌*◌, ◌<◌, ◌≤◌, length};
 ghost use Rattle.moduli.specs.Moduli.{limit};
-ghost use Rattle.poly.specs.Words.{records, cleared};
+ghost use Rattle.poly.specs.Words.{records};
 ghost use Rattle.poly.specs.Valid.{Valid};
 ghost use Rattle.refusals.specs.Rules.{input_terms};
-ghost use Rattle.calls.specs.Outcomes.{outcome, told};
-ghost use Rattle.calls.specs.Endings.{kept};
+ghost use Rattle.calls.specs.Outcomes.{outcome};
 ghost use Rattle.product.specs.Products.{product_of, multiplied};
 
-use calls::ending::{leave, report_of, room_reply};
+use calls::ending::{leave, room_reply, told};
 use calls::inputs::two_inputs;
 use expansion::{burst_at, expand};
-use numbers::smaller;
 use poly::room::clear;
+use reasons::Reason;
 use refusals::report::{Report, done, or_else};
 use refusals::rules::{ROOM_TERMS, work_rule};
-
-// The number of letters.
-const LETTERS: usize = 4;
 
 // The product of two polynomials, with four work words for each term of the shorter factor.
 pub fn product(p: u64, a: &[u64], b: &[u64], room: &mut [u64], work: &mut [u64]) -> Report
     ensures { outcome result room.new [] work.new
         ≡ product_of p a.now b.now room.old work.old }
 {
-    let least = 4 * smaller(a.len() / 2, b.len() / 2);
+    let least = 4 * (a.len() / 2).min(b.len() / 2);
     let last = or_else(work_rule(least, work), done(0, 0));
     let due = two_inputs(p, a, b).room(3, ROOM_TERMS, room).first(p, last);
     if due.number != 0 {
@@ -46,21 +42,13 @@ fn multiply(p: u64, rows: &[u64], cols: &[u64], room: &mut [u64], work: &mut [u6
     ensures { outcome result room.new [] work.new
         ≡ multiplied p rows.now cols.now room.old work.old }
 {
-    if burst_at(rows, cols) < LETTERS {
-        return end(9, 0, room, work);
-    }
-    let n = expand(p, rows, cols, room, work);
-    let reply = room_reply(n, room);
-    end(reply, n, room, work)
-}
-
-// Leaves room and work with a reply, and tells it.
-fn end(reply: u64, n: usize, room: &mut [u64], work: &mut [u64]) -> Report
-    requires { reply ≡ 0 → n ≤ records room.old }
-    ensures { outcome result room.new [] work.new
-        ≡ outcome (told reply n 0) (kept reply n room.old) [] (cleared work.old) }
-{
+    let end = if burst_at(rows, cols).is_some() {
+        Err(Reason::BigExponent)
+    } else {
+        let n = expand(p, rows, cols, room, work);
+        room_reply(n, room)
+    };
     clear(work, 0);
-    leave(room, reply, n);
-    report_of(reply, n, 0)
+    leave(room, end.ok());
+    told(end.map(|n| (n, 0)))
 }

@@ -15,10 +15,11 @@ use Rattle.algebra.specs.Monomials.{Numbers}
 use Rattle.algebra.specs.Polynomials.{term, Poly, count, times}
 use Rattle.algebra.proofs.Sorted.{count-append, head_count}
 use Rattle.poly.specs.Words.{records, word_at, coef_at, span}
-use Rattle.tree.specs.Tree.{tag_at, Tree, Settled, row_of, column_of, Product, Waits, unless_empty, pending, awaited, Live, Climbed, Added}
+use Rattle.tree.specs.declared.Node.{Node}
+use Rattle.tree.specs.Tree.{tag_at, Tree, Settled, row_of, column_of, Product, Waits, pending, awaited, Live, Climbed, Added}
 use Rattle.poly.proofs.Records.{put, put-length, put_other}
 use Rattle.tree.proofs.Ways.{settled_root, root_settled, tree_greatest, Leaf, tree_leaf}
-use Rattle.tree.proofs.Taking.{Hand, hand, awaited_same, row_term, pending-at, pending_empty, pending-first}
+use Rattle.tree.proofs.Taking.{Hand, hand, waits_same, pending_same, awaited_same, row_term, pending-at, pending_empty, pending-first}
 
 module _ (rows cols : List ℕ) where
   pub awaited-append : (w : List ℕ) (i n m : ℕ) → awaited rows cols w i (n + m) ≡ awaited rows cols w i n ++ awaited rows cols w (i + n) m
@@ -69,7 +70,13 @@ module _ (rows cols : List ℕ) where
     tag_column : column_of tag ≡ column
     tag_column = omega arith
 
-    module _ (w' : List ℕ) (e : ℕ) (c : Climbed (records rows) (records rows + row) key tag k w w' e) where
+    module _ (leaf : Node) (made : (leaf.key ≡ key) × (leaf.tag ≡ tag)) (w' : List ℕ) (e : ℕ) (c : Climbed (records rows) (records rows + row) leaf.key leaf.tag k w w' e) where
+      keyed : word_at w' (records rows + row) ≡ key
+      keyed = c.keyed ∙ made.0
+
+      tagged : tag_at w' (records rows + row) ≡ tag
+      tagged = c.tagged ∙ made.1
+
       other : (i : ℕ) → i < records rows → (i ≡ row → ⊥) → (word_at w' (records rows + i) ≡ word_at w (records rows + i)) × (tag_at w' (records rows + i) ≡ tag_at w (records rows + i))
       other i b n = c.others (records rows + i) (omega arith) (omega arith) (λ d. n (omega arith))
 
@@ -78,7 +85,7 @@ module _ (rows cols : List ℕ) where
       leaf_lower y f b = go (ℕ_discrete y (records rows + row))
         where
           go : Dec (y ≡ records rows + row) → word_at w' y < k
-          go (yes d) = omega (arith, ap (word_at w') d, c.keyed)
+          go (yes d) = omega (arith, ap (word_at w') d, keyed)
           go (no d) = omega (arith, (c.others y f b d).0, tree_greatest (records rows) w l.tree y (omega arith) b)
 
       at_lower : (x : ℕ) → Leaf (records rows) w' x → word_at w' x < k
@@ -95,44 +102,30 @@ module _ (rows cols : List ℕ) where
       settled = subst (λ x. Settled (records rows) x w') at-root c.settled
 
       waits : (i : ℕ) → i < records rows → Waits rows cols w' i
-      waits i b = go (ℕ_discrete i row)
-        where
-          kept : (i ≡ row → ⊥) → (word_at w (records rows + i) ≡ 0) ⊎ Product rows cols w i → (word_at w' (records rows + i) ≡ 0) ⊎ Product rows cols w' i
-          kept n (inl z) = inl ((other i b n).0 ∙ z)
-          kept n (inr q) =
-              let o = other i b n in
-              inr
-              (record {
-                row = ap row_of o.1 ∙ q.row;
-                column = subst (λ t. column_of t < records cols) (sym o.1) q.column;
-                key = o.0 ∙ q.key ∙ ap (λ t. word_at rows i + word_at cols (column_of t) + 1) (sym o.1);
-              })
-
-          go : Dec (i ≡ row) → Waits rows cols w' i
-          go (no n) = record { waits = kept n (l.waiting i b).waits }
-          go (yes d) =
-              let here : Product rows cols w' row = record {
-                row = ap row_of c.tagged ∙ tag_row;
-                column = omega (arith, ap column_of c.tagged ∙ tag_column);
-                key = c.keyed ∙ ap (λ x. word_at rows row + word_at cols x + 1) (sym (ap column_of c.tagged ∙ tag_column));
-              } in
-              subst (Waits rows cols w') (sym d) (record { waits = inr here })
+      waits i b = elim (ℕ_discrete i row) [
+        | no n ↦ let o = other i b n in waits_same rows rows cols w w' i o.0 o.1 refl (l.waiting i b)
+        | yes d ↦
+            let here : Product rows cols w' row = record {
+              row = ap row_of tagged ∙ tag_row;
+              column = omega (arith, ap column_of tagged ∙ tag_column);
+              key = keyed ∙ ap (λ x. word_at rows row + word_at cols x + 1) (sym (ap column_of tagged ∙ tag_column));
+            } in
+            subst (Waits rows cols w') (sym d) (record { waits = inr here })
+      ]
 
       same_pending : (i : ℕ) → i < records rows → (i ≡ row → ⊥) → pending rows cols w i ≡ pending rows cols w' i
-      same_pending i b n =
-          let o = other i b n in
-          λ d. unless_empty (sym o.0 d) (times (row_term rows cols i) (span cols (column_of (sym o.1 d)) (records cols - column_of (sym o.1 d))))
+      same_pending i b n = let o = other i b n in pending_same rows rows cols w w' i o.0 o.1 refl refl
 
       new-pending : pending rows cols w' row ≡ times (row_term rows cols row) (span cols column (records cols - column))
       new-pending =
-          pending-at rows cols w' row tag c.tagged (omega (arith, c.keyed))
+          pending-at rows cols w' row tag tagged (omega (arith, keyed))
           ∙ ap (λ x. times (row_term rows cols row) (span cols x (records cols - x))) tag_column
 
       pub adds : Added rows cols row column k w w'
       adds =
-          let front : awaited rows cols w' 0 row ≡ awaited rows cols w 0 row = sym (awaited_same rows cols w w' 0 row (λ j f b. same_pending j (omega arith) (λ d. omega arith))) in
+          let front : awaited rows cols w' 0 row ≡ awaited rows cols w 0 row = sym (awaited_same rows rows cols w w' 0 row (λ j f b. same_pending j (omega arith) (λ d. omega arith))) in
           let back : awaited rows cols w' (suc row) (records rows - suc row) ≡ awaited rows cols w (suc row) (records rows - suc row) =
-          sym (awaited_same rows cols w w' (suc row) (records rows - suc row) (λ j f b. same_pending j (omega arith) (λ d. omega arith))) in
+          sym (awaited_same rows rows cols w w' (suc row) (records rows - suc row) (λ j f b. same_pending j (omega arith) (λ d. omega arith))) in
           record {
             as_long = c.as_long;
             live = record { long = omega (arith, c.as_long, l.long); tree = settled_root (records rows) w' settled; waiting = waits };
@@ -153,35 +146,26 @@ module _ (rows cols w : List ℕ) (row m c : ℕ) (empty : word_at w (records ro
   same : records rows' ≡ records rows
   same = ap (λ (x : ℕ). x / 2) (put-length rows row m c)
 
-  row_pending : (i : ℕ) → pending rows cols w i ≡ pending rows' cols w i
-  row_pending i = go (ℕ_discrete i row)
-    where
-      go : Dec (i ≡ row) → pending rows cols w i ≡ pending rows' cols w i
-      go (yes d) =
-          let z : word_at w (records rows + i) ≡ 0 = ap (λ x. word_at w (records rows + x)) d ∙ empty in
-          pending_empty rows cols w i z ∙ sym (pending_empty rows' cols w i (ap (λ x. word_at w (x + i)) same ∙ z))
-      go (no n) =
-          let o = put_other rows row m c i n in
-          λ d. unless_empty (word_at w (sym same d + i)) (times (term (sym o.0 d) (sym o.1 d))
-          (span cols (column_of (tag_at w (sym same d + i))) (records cols - column_of (tag_at w (sym same d + i)))))
+  key_same : (i : ℕ) → word_at w (records rows' + i) ≡ word_at w (records rows + i)
+  key_same i = ap (λ x. word_at w (x + i)) same
 
-  row_awaited : (i n : ℕ) → awaited rows cols w i n ≡ awaited rows' cols w i n
-  row_awaited i zero = refl
-  row_awaited i (suc n) = λ d. row_pending i d ++ row_awaited (suc i) n d
+  tag_same : (i : ℕ) → tag_at w (records rows' + i) ≡ tag_at w (records rows + i)
+  tag_same i = ap (λ x. tag_at w (x + i)) same
+
+  nothing : (i : ℕ) → i ≡ row → word_at w (records rows + i) ≡ 0
+  nothing i d = ap (λ x. word_at w (records rows + x)) d ∙ empty
+
+  row_pending : (i : ℕ) → pending rows cols w i ≡ pending rows' cols w i
+  row_pending i = elim (ℕ_discrete i row) [
+    | yes d ↦ pending_empty rows cols w i (nothing i d) ∙ sym (pending_empty rows' cols w i (key_same i ∙ nothing i d))
+    | no n ↦ let o = put_other rows row m c i n in pending_same rows rows' cols w w i (key_same i) (tag_same i) o.0 o.1
+  ]
 
   row_waits : (i : ℕ) → Waits rows cols w i → Waits rows' cols w i
-  row_waits i v = record { waits = go (ℕ_discrete i row) v.waits }
-    where
-      go : Dec (i ≡ row) → (word_at w (records rows + i) ≡ 0) ⊎ Product rows cols w i → (word_at w (records rows' + i) ≡ 0) ⊎ Product rows' cols w i
-      go d (inl z) = inl (ap (λ x. word_at w (x + i)) same ∙ z)
-      go (yes d) (inr q) = inl (ap (λ x. word_at w (x + i)) same ∙ ap (λ x. word_at w (records rows + x)) d ∙ empty)
-      go (no n) (inr q) =
-          inr
-          (record {
-            row = ap (λ x. row_of (tag_at w (x + i))) same ∙ q.row;
-            column = subst (λ x. column_of (tag_at w (x + i)) < records cols) (sym same) q.column;
-            key = ap (λ x. word_at w (x + i)) same ∙ q.key ∙ (λ d. sym (put_other rows row m c i n).0 d + word_at cols (column_of (tag_at w (sym same d + i))) + 1);
-          })
+  row_waits i v = elim (ℕ_discrete i row) [
+    | yes d ↦ record { waits = inl (key_same i ∙ nothing i d) }
+    | no n ↦ waits_same rows rows' cols w w i (key_same i) (tag_same i) (put_other rows row m c i n).0 v
+  ]
 
   pub row_written : Live rows cols w → Live rows' cols w × (awaited rows cols w 0 (records rows) ≡ awaited rows' cols w 0 (records rows'))
   row_written l = (
@@ -190,5 +174,5 @@ module _ (rows cols w : List ℕ) (row m c : ℕ) (empty : word_at w (records ro
       tree = subst (λ n. Tree n w) (sym same) l.tree;
       waiting = λ i h. row_waits i (l.waiting i (omega (arith, same)));
     },
-    row_awaited 0 (records rows) ∙ ap (awaited rows' cols w 0) (sym same),
+    awaited_same rows rows' cols w w 0 (records rows) (λ j f b. row_pending j) ∙ ap (awaited rows' cols w 0) (sym same),
   )

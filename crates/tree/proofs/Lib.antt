@@ -3,3 +3,4 @@ pub mod Ways
 pub mod Taking
 pub mod Planting
 pub mod Adding
+pub mod Determined

@@ -1,15 +1,12 @@
 -- A tree that starts: its leaves are planted, and the records above them built.
 --
---   plant-none, plant_more               one leaf after the other
---   build-none, build_more, build-less   one record after the other, from the last to the root
 --   starts                               a tree so built waits for every product
 --   awaited_below                        where the columns fall, every product left is at most the root's
 --   awaited-none                         nothing is left where the root is empty
-use Prim.Native.Nat.{ℕ, zero, suc, ◌+◌, ◌-◌, ◌*◌, ◌/◌, ◌^◌, ◌<◌, ◌≤◌}
+use Prim.Native.Nat.{ℕ, zero, suc, ◌+◌, ◌-◌, ◌*◌, ◌^◌, ◌<◌, ◌≤◌}
 use mathlib.Core.Path.{◌≡◌, refl, sym, ◌∙◌, ap, subst}
 use mathlib.Core.List.{List, [], ◌++◌}
-use mathlib.Core.Logic.{◌⊎◌, inl, inr}
-use native.Mathlib.Decide.{ℕ_discrete}
+use mathlib.Core.Logic.{inl, inr}
 use native.Mathlib.Omega.{arith}
 use lib.ListN.{length}
 use Rattle.algebra.specs.Monomials.{Numbers}
@@ -17,90 +14,9 @@ use Rattle.algebra.specs.Orders.{Rising}
 use Rattle.algebra.specs.Polynomials.{term, times, mul, Below}
 use Rattle.algebra.proofs.All.{all_append}
 use Rattle.poly.specs.Words.{records, word_at, coef_at, span}
-use Rattle.tree.specs.Tree.{tag_at, Holds, row_of, column_of, Product, Waits, pending, awaited, Live, Greater, Planted, Built, Started}
-use Rattle.tree.specs.declared.Node.{Node}
-use Rattle.poly.proofs.Records.{put, put-length, put-word, put-coef, put_other}
-use Rattle.tree.proofs.Ways.{beside, beside_place, Best, best_holds, holds_other, tree_greatest}
+use Rattle.tree.specs.Tree.{tag_at, row_of, column_of, Product, Waits, pending, awaited, Live, Planted, Built, Started}
+use Rattle.tree.proofs.Ways.{leaf_greatest}
 use Rattle.tree.proofs.Taking.{pending-at, pending_empty}
-
-pub plant-none : (rows : List ℕ) (word : ℕ) (w : List ℕ) → Planted rows word w 0 w
-plant-none rows word w =
-    record { as_long = refl; within = omega arith; keyed = λ i h. absurd (omega arith); tagged = λ i h. absurd (omega arith) }
-
-pub plant_more : (rows : List ℕ) (word : ℕ) (w w' : List ℕ) (n : ℕ) → 4 * records rows ≤ length w → n < records rows → Planted rows word w n w' →
-    Planted rows word w (n + 1) (put w' (records rows + n) (word_at rows n + word + 1) (n * 2 ^ 32))
-plant_more rows word w w' n long h p =
-    record {
-      as_long = put-length w' (records rows + n) key tag ∙ p.as_long;
-      within = omega arith;
-      keyed = λ i k. elim (ℕ_discrete i n) [
-        | yes e ↦ ap (λ x. word_at next (records rows + x)) e ∙ put-word w' (records rows + n) key tag inside ∙ ap
-            (λ x. word_at rows x + word + 1) (sym e)
-        | no d ↦ (put_other w' (records rows + n) key tag (records rows + i) (λ e. d (omega arith))).0 ∙ p.keyed i (omega arith)
-      ];
-      tagged = λ i k. elim (ℕ_discrete i n) [
-        | yes e ↦ ap (λ x. tag_at next (records rows + x)) e ∙ put-coef w' (records rows + n) key tag inside ∙ ap
-            (λ x. x * 2 ^ 32) (sym e)
-        | no d ↦ (put_other w' (records rows + n) key tag (records rows + i) (λ e. d (omega arith))).1 ∙ p.tagged i (omega arith)
-      ];
-    }
-  where
-    key : ℕ
-    key = word_at rows n + word + 1
-
-    tag : ℕ
-    tag = n * 2 ^ 32
-
-    next : List ℕ
-    next = put w' (records rows + n) key tag
-
-    inside : 2 * (records rows + n) + 1 < length w'
-    inside = omega (arith, p.as_long)
-
-pub build-none : (n : ℕ) (w : List ℕ) → Built n w n w
-build-none n w = record { as_long = refl; holds = λ i h k. absurd (omega arith); leaves = λ y h. (refl, refl) }
-
-pub build-less : (n : ℕ) (w w' : List ℕ) (j k : ℕ) → j ≤ k → Built n w j w' → Built n w k w'
-build-less n w w' j k h b = record { as_long = b.as_long; holds = λ i f l. b.holds i (omega arith) l; leaves = b.leaves }
-
-pub build_more : (n : ℕ) (w w' : List ℕ) (j : ℕ) (g : Node) → 4 * n ≤ length w → 1 ≤ j → j < n → Built n w (j + 1) w' →
-    Greater (record { key = word_at w' (2 * j); tag = tag_at w' (2 * j) }) (record { key = word_at w' (2 * j + 1); tag = tag_at w' (2 * j + 1) }) g → Built n w j (put w' j g.key g.tag)
-build_more n w w' j g long from below b r =
-    record {
-      as_long = put-length w' j g.key g.tag ∙ b.as_long;
-      holds = λ i h k. elim (ℕ_discrete i j) [ yes e ↦ subst (Holds next) (sym e) here | no d ↦ holds_other n w' j g.key g.tag i d (λ e. omega arith) (b.holds i (omega arith) k) ];
-      leaves =
-          λ y h.
-          let o = put_other w' j g.key g.tag y (λ e. omega arith) in
-          let l = b.leaves y h in
-          (o.0 ∙ l.0, o.1 ∙ l.1);
-    }
-  where
-    next : List ℕ
-    next = put w' j g.key g.tag
-
-    half : 2 * j / 2 ≡ j
-    half = omega arith
-
-    other : beside (2 * j) ≡ 2 * j + 1
-    other = omega (arith, beside_place (2 * j))
-
-    best : Best n w' (2 * j) g.key g.tag
-    best =
-        record {
-          first = r.first;
-          second = subst (λ x. word_at w' x ≤ g.key) (sym other) r.second;
-          copies =
-              elim r.copies [
-                | inl e ↦ inl (ap (λ (x : Node). x.key) e, ap (λ (x : Node). x.tag) e)
-                | inr e ↦ inr (ap (λ (x : Node). x.key) e ∙ ap (word_at w') (sym other), ap (λ (x : Node). x.tag) e ∙ ap (tag_at w') (sym other))
-              ];
-        }
-
-    here : Holds next j
-    here =
-        subst (λ x. Holds (put w' x g.key g.tag) x) half
-        (best_holds n w' (2 * j) g.key g.tag (omega arith) (omega (arith, b.as_long)) best)
 
 module _ (rows cols : List ℕ) where
   -- the leaf of a row that waits at the first column
@@ -163,15 +79,13 @@ module _ (rows cols : List ℕ) where
 
   row_below : (w : List ℕ) → ((i : ℕ) → suc i < records cols → word_at cols (suc i) < word_at cols i) → (k i : ℕ) →
       word_at w (records rows + i) < suc k → Waits rows cols w i → Below Rising k (pending rows cols w i)
-  row_below w falls k i h v = go v.waits
-    where
-      go : (word_at w (records rows + i) ≡ 0) ⊎ Product rows cols w i → Below Rising k (pending rows cols w i)
-      go (inl z) = subst (Below Rising k) (sym (pending_empty rows cols w i z)) tt
-      go (inr q) =
-          let c = column_of (tag_at w (records rows + i)) in
-          subst (Below Rising k)
-          (sym (pending-at rows cols w i (tag_at w (records rows + i)) refl (omega (arith, q.key))))
-          (times_below falls k i c (records cols - c) (omega (arith, q.column)) (λ l. omega (arith, q.key)))
+  row_below w falls k i h v =
+      let c = column_of (tag_at w (records rows + i)) in
+      elim v.waits [
+        | inl z ↦ subst (Below Rising k) (sym (pending_empty rows cols w i z)) tt
+        | inr q ↦ subst (Below Rising k) (sym (pending-at rows cols w i (tag_at w (records rows + i)) refl (omega (arith, q.key))))
+            (times_below falls k i c (records cols - c) (omega (arith, q.column)) (λ l. omega (arith, q.key)))
+      ]
 
   rows_below : (w : List ℕ) → ((i : ℕ) → suc i < records cols → word_at cols (suc i) < word_at cols i) → (k i n : ℕ) →
       ((j : ℕ) → j < i + n → word_at w (records rows + j) < suc k) → ((j : ℕ) → j < i + n → Waits rows cols w j) → Below Rising k (awaited rows cols w i n)
@@ -185,7 +99,7 @@ module _ (rows cols : List ℕ) where
       word_at w 1 < suc k → Below Rising k (awaited rows cols w 0 (records rows))
   awaited_below w l falls k h =
       rows_below w falls k 0 (records rows)
-      (λ j b. let g : word_at w (records rows + j) ≤ word_at w 1 = tree_greatest (records rows) w l.tree (records rows + j) (omega arith) (omega arith) in omega arith)
+      (λ j b. omega (arith, leaf_greatest (records rows) w l.tree j (omega arith)))
       (λ j b. l.waiting j (omega arith))
 
   rows-none : (w : List ℕ) (i n : ℕ) → ((j : ℕ) → j < i + n → word_at w (records rows + j) ≡ 0) → awaited rows cols w i n ≡ []
@@ -196,4 +110,4 @@ module _ (rows cols : List ℕ) where
   pub awaited-none : (w : List ℕ) → Live rows cols w → word_at w 1 ≡ 0 → awaited rows cols w 0 (records rows) ≡ []
   awaited-none w l e =
       rows-none w 0 (records rows)
-      (λ j b. let g : word_at w (records rows + j) ≤ word_at w 1 = tree_greatest (records rows) w l.tree (records rows + j) (omega arith) (omega arith) in omega arith)
+      (λ j b. omega (arith, leaf_greatest (records rows) w l.tree j (omega arith)))

@@ -1,6 +1,7 @@
 -- One product leaves the tree.
 --
 --   weigh ψ f, total-weigh, count-weigh   sums over the terms of f; totals, counts and lengths are such sums
+--   waits_same, pending_same, awaited_same   rows whose leaves are as in another tree wait as they do there
 --   awaited-less   where one row's first product goes, every sum over what is left falls by that product's part
 --   Hand           the product in hand: its row, its column, and its key
 --   hand           the record to be taken is the product of its own row and column
@@ -21,7 +22,7 @@ use Rattle.algebra.proofs.Residues.{same_eq, same_refl, same_sym, same_trans, sa
 use Rattle.algebra.proofs.Totals.{total, equal_by}
 use Rattle.algebra.proofs.NormalForm.{equal_trans}
 use Rattle.poly.specs.Words.{records, word_at, coef_at, span}
-use Rattle.tree.specs.Tree.{tag_at, Settled, row_of, column_of, Product, Waits, unless_empty, pending, awaited, Sides, Live, Next, Climbed, Taken}
+use Rattle.tree.specs.Tree.{tag_at, node_at, Settled, row_of, column_of, Product, Waits, unless_empty, pending, awaited, Sides, Live, Next, Climbed, Taken}
 use Rattle.tree.specs.declared.Node.{Node}
 use Rattle.tree.proofs.Ways.{settled_root, root_settled, tree_greatest, Leaf, tree_leaf}
 
@@ -47,12 +48,35 @@ pub length-weigh : (f : Poly Numbers) → length f ≡ weigh (λ u. 1) f
 length-weigh [] = refl
 length-weigh (u ∷ f) = omega (arith, length-weigh f)
 
-module _ (rows cols : List ℕ) where
-  pub awaited_same : (w w' : List ℕ) (i n : ℕ) → ((j : ℕ) → i ≤ j → j < i + n → pending rows cols w j ≡ pending rows cols w' j) → awaited rows cols w i n ≡ awaited rows cols w' i n
-  awaited_same w w' i zero h = refl
-  awaited_same w w' i (suc n) h =
-      λ d. h i (le_refl i) (omega arith) d ++ awaited_same w w' (suc i) n (λ j k l. h j (omega arith) (omega arith)) d
+-- Two trees
 
+module _ (rows rows' cols w w' : List ℕ) where
+  module _ (i : ℕ) (key : word_at w' (records rows' + i) ≡ word_at w (records rows + i)) (tag : tag_at w' (records rows' + i) ≡ tag_at w (records rows + i))
+      (word : word_at rows' i ≡ word_at rows i) where
+    pub waits_same : Waits rows cols w i → Waits rows' cols w' i
+    waits_same v =
+        record {
+          waits =
+              elim v.waits [
+                | inl z ↦ inl (key ∙ z)
+                | inr q ↦ inr (record {
+                  row = ap row_of tag ∙ q.row;
+                  column = subst (λ t. column_of t < records cols) (sym tag) q.column;
+                  key = key ∙ q.key ∙ (λ d. sym word d + word_at cols (column_of (sym tag d)) + 1);
+                })
+              ];
+        }
+
+    pub pending_same : coef_at rows' i ≡ coef_at rows i → pending rows cols w i ≡ pending rows' cols w' i
+    pending_same coef =
+        λ d. unless_empty (sym key d) (times (term (sym word d) (sym coef d)) (span cols (column_of (sym tag d)) (records cols - column_of (sym tag d))))
+
+  pub awaited_same : (i n : ℕ) → ((j : ℕ) → i ≤ j → j < i + n → pending rows cols w j ≡ pending rows' cols w' j) → awaited rows cols w i n ≡ awaited rows' cols w' i n
+  awaited_same i zero h = refl
+  awaited_same i (suc n) h =
+      λ d. h i (le_refl i) (omega arith) d ++ awaited_same (suc i) n (λ j k l. h j (omega arith) (omega arith)) d
+
+module _ (rows cols : List ℕ) where
   pub awaited-less : (w w' : List ℕ) (r : ℕ) (x : Term Numbers) → pending rows cols w r ≡ x ∷ pending rows cols w' r → (top : ℕ) →
       ((j : ℕ) → j < top → (j ≡ r → ⊥) → pending rows cols w j ≡ pending rows cols w' j) → (ψ : Term Numbers → ℕ) (i n : ℕ) → i ≤ r → r < i + n →
       i + n ≤ top → weigh ψ (awaited rows cols w i n) ≡ ψ x + weigh ψ (awaited rows cols w' i n)
@@ -65,7 +89,7 @@ module _ (rows cols : List ℕ) where
       go (yes d) rest =
           let here : weigh ψ (pending rows cols w i) ≡ ψ x + weigh ψ (pending rows cols w' i) = ap (λ j. weigh ψ (pending rows cols w j)) d
           ∙ ap (weigh ψ) e ∙ ap (λ j. ψ x + weigh ψ (pending rows cols w' j)) (sym d) in
-          let later : weigh ψ (awaited rows cols w (suc i) n) ≡ weigh ψ (awaited rows cols w' (suc i) n) = ap (weigh ψ) (awaited_same w w' (suc i) n (λ j l m. o j (omega arith) (λ f. omega arith))) in
+          let later : weigh ψ (awaited rows cols w (suc i) n) ≡ weigh ψ (awaited rows cols w' (suc i) n) = ap (weigh ψ) (awaited_same rows rows cols w w' (suc i) n (λ j l m. o j (omega arith) (λ f. omega arith))) in
           omega (arith, weigh-append ψ (pending rows cols w i) (awaited rows cols w (suc i) n), weigh-append ψ (pending rows cols w' i) (awaited rows cols w' (suc i) n))
       go (no d) rest =
           let here : weigh ψ (pending rows cols w i) ≡ weigh ψ (pending rows cols w' i) = ap (weigh ψ) (o i (omega arith) d) in
@@ -154,18 +178,15 @@ module _ (rows cols : List ℕ) where
     next_column l = omega (arith, S.few.1)
 
     pending-next : pending rows cols w' (row_of tag) ≡ later (row_of tag) (column_of tag)
-    pending-next = go nx.next
-      where
-        go : ((records cols ≡ column_of tag + 1) × (x.key ≡ 0))
-            ⊎ ((column_of tag + 1 < records cols) × (x.key ≡ word_at rows (row_of tag) + word_at cols (column_of tag + 1) + 1) × (x.tag ≡ tag + 1)) →
-            pending rows cols w' (row_of tag) ≡ later (row_of tag) (column_of tag)
-        go (inl z) =
-            let none : 0 ≡ records cols - suc (column_of tag) = omega (arith, z.0) in
-            pending_empty w' (row_of tag) (c.keyed ∙ z.1) ∙ ap (λ n. times (row_term (row_of tag)) (span cols (suc (column_of tag)) n)) none
-        go (inr z) =
-            let positive : 0 < word_at w' (records rows + row_of tag) = omega (arith, c.keyed, z.1) in
-            let column : column_of x.tag ≡ suc (column_of tag) = ap column_of z.2 ∙ next_column z.0 ∙ add-one (column_of tag) in
-            pending-at w' (row_of tag) x.tag c.tagged positive ∙ ap (λ n. times (row_term (row_of tag)) (span cols n (records cols - n))) column
+    pending-next = elim nx.next [
+      | inl z ↦
+          let none : 0 ≡ records cols - suc (column_of tag) = omega (arith, z.0) in
+          pending_empty w' (row_of tag) (c.keyed ∙ z.1) ∙ ap (λ n. times (row_term (row_of tag)) (span cols (suc (column_of tag)) n)) none
+      | inr z ↦
+          let positive : 0 < word_at w' (records rows + row_of tag) = omega (arith, c.keyed, z.1) in
+          let column : column_of x.tag ≡ suc (column_of tag) = ap column_of z.2 ∙ next_column z.0 ∙ add-one (column_of tag) in
+          pending-at w' (row_of tag) x.tag c.tagged positive ∙ ap (λ n. times (row_term (row_of tag)) (span cols n (records cols - n))) column
+    ]
 
     pub pending-taken : pending rows cols w (row_of tag) ≡ term (k - 1) (coef_at rows (row_of tag) * coef_at cols (column_of tag)) ∷ pending rows cols w' (row_of tag)
     pending-taken =
@@ -179,63 +200,48 @@ module _ (rows cols : List ℕ) where
     pub pending_other : (j : ℕ) → j < records rows → (j ≡ row_of tag → ⊥) → pending rows cols w j ≡ pending rows cols w' j
     pending_other j b n =
         let o = other_leaf j b n in
-        λ d. unless_empty (sym o.0 d) (times (row_term j) (span cols (column_of (sym o.1 d)) (records cols - column_of (sym o.1 d))))
+        pending_same rows rows cols w w' j o.0 o.1 refl refl
 
     waits_next : Waits rows cols w' (row_of tag)
-    waits_next = record { waits = go nx.next }
-      where
-        go : ((records cols ≡ column_of tag + 1) × (x.key ≡ 0))
-            ⊎ ((column_of tag + 1 < records cols) × (x.key ≡ word_at rows (row_of tag) + word_at cols (column_of tag + 1) + 1) × (x.tag ≡ tag + 1)) →
-            (word_at w' (records rows + row_of tag) ≡ 0) ⊎ Product rows cols w' (row_of tag)
-        go (inl z) = inl (c.keyed ∙ z.1)
-        go (inr z) =
-            let t : tag_at w' (records rows + row_of tag) ≡ tag + 1 = c.tagged ∙ z.2 in
-            let column : column_of (tag_at w' (records rows + row_of tag)) ≡ column_of tag + 1 = ap column_of t ∙ next_column z.0 in
-            inr
-            (record {
-              row = ap row_of t ∙ next_row z.0;
-              column = omega (arith, column, z.0);
-              key = c.keyed ∙ z.1 ∙ ap (λ n. word_at rows (row_of tag) + word_at cols n + 1) (sym column);
-            })
-
-    waits_other : (j : ℕ) → j < records rows → (j ≡ row_of tag → ⊥) → Waits rows cols w j → Waits rows cols w' j
-    waits_other j b n v = record { waits = go v.waits }
-      where
-        o : (word_at w' (records rows + j) ≡ word_at w (records rows + j)) × (tag_at w' (records rows + j) ≡ tag_at w (records rows + j))
-        o = other_leaf j b n
-
-        go : (word_at w (records rows + j) ≡ 0) ⊎ Product rows cols w j → (word_at w' (records rows + j) ≡ 0) ⊎ Product rows cols w' j
-        go (inl z) = inl (o.0 ∙ z)
-        go (inr q) =
-            inr
-            (record {
-              row = ap row_of o.1 ∙ q.row;
-              column = subst (λ t. column_of t < records cols) (sym o.1) q.column;
-              key = o.0 ∙ q.key ∙ ap (λ t. word_at rows j + word_at cols (column_of t) + 1) (sym o.1);
-            })
+    waits_next = record {
+      waits =
+          elim nx.next [
+            | inl z ↦ inl (c.keyed ∙ z.1)
+            | inr z ↦
+                let t : tag_at w' (records rows + row_of tag) ≡ tag + 1 = c.tagged ∙ z.2 in
+                let column : column_of (tag_at w' (records rows + row_of tag)) ≡ column_of tag + 1 = ap column_of t ∙ next_column z.0 in
+                inr (record {
+                  row = ap row_of t ∙ next_row z.0;
+                  column = omega (arith, column, z.0);
+                  key = c.keyed ∙ z.1 ∙ ap (λ n. word_at rows (row_of tag) + word_at cols n + 1) (sym column);
+                })
+          ];
+    }
 
     pub waits_all : ((i : ℕ) → i < records rows → Waits rows cols w i) → (i : ℕ) → i < records rows → Waits rows cols w' i
     waits_all v i b =
-        elim (ℕ_discrete i (row_of tag)) [ yes d ↦ subst (Waits rows cols w') (sym d) waits_next | no n ↦ waits_other i b n (v i b) ]
+        elim (ℕ_discrete i (row_of tag)) [
+          | yes d ↦ subst (Waits rows cols w') (sym d) waits_next
+          | no n ↦ let o = other_leaf i b n in waits_same rows rows cols w w' i o.0 o.1 refl (v i b)
+        ]
 
     -- where the columns fall, the row's next key is lower
     pub next_lower : ((i : ℕ) → suc i < records cols → word_at cols (suc i) < word_at cols i) → x.key < k
-    next_lower falls = go nx.next
-      where
-        go : ((records cols ≡ column_of tag + 1) × (x.key ≡ 0))
-            ⊎ ((column_of tag + 1 < records cols) × (x.key ≡ word_at rows (row_of tag) + word_at cols (column_of tag + 1) + 1) × (x.tag ≡ tag + 1)) → x.key < k
-        go (inl z) = omega (arith, z.1)
-        go (inr z) =
-            omega (arith, z.1, h.key, falls (column_of tag) (omega (arith, z.0)), ap (word_at cols) (add-one (column_of tag)))
+    next_lower falls = elim nx.next [
+      | inl z ↦ omega (arith, z.1)
+      | inr z ↦ omega (arith, z.1, h.key, falls (column_of tag) (omega (arith, z.0)), ap (word_at cols) (add-one (column_of tag)))
+    ]
 
     pub taken : (ψ : Term Numbers → ℕ) →
         weigh ψ (awaited rows cols w 0 (records rows)) ≡ ψ (term (k - 1) (coef_at rows (row_of tag) * coef_at cols (column_of tag))) + weigh ψ (awaited rows cols w' 0 (records rows))
     taken ψ =
         awaited-less w w' (row_of tag) _ pending-taken (records rows) pending_other ψ 0 (records rows) (omega arith) (omega (arith, h.row)) (omega arith)
 
-  -- The loop: `sum` is what was taken so far of the array w₀, w is the array now, and the record to be taken next is at `at`.
+  -- The loop: `sum` is what was taken so far of the array w₀, w is the array now, and the record to be taken next is `node`, at `at`.
 
-  pub record Taking (p k : ℕ) (w₀ w : List ℕ) (sum at : ℕ) : Type 0 where
+  pub record Taking (p k : ℕ) (w₀ w : List ℕ) (sum : ℕ) (node : Node) : Type 0 where
+    pub at : ℕ
+    pub here : node ≡ node_at w at
     pub long : 4 * records rows ≤ length w
     pub as_long : length w ≡ length w₀
     pub from : 1 ≤ at
@@ -249,9 +255,11 @@ module _ (rows cols : List ℕ) where
     pub lower : ((i : ℕ) → suc i < records cols → word_at cols (suc i) < word_at cols i) → word_at w₀ 1 ≤ k → (y : ℕ) → records rows ≤ y → y < 2 * records rows → word_at w y ≤ k
     pub empty : (i : ℕ) → i < records rows → word_at w₀ (records rows + i) ≡ 0 → word_at w (records rows + i) ≡ 0
 
-  pub take-starts : (p k : ℕ) (w : List ℕ) → 0 < p → 0 < records rows → Live rows cols w → Taking p k w w 0 1
-  take-starts p k w pos some l =
+  pub take-starts : (p k : ℕ) (w : List ℕ) (node : Node) → 0 < p → 0 < records rows → Live rows cols w → node ≡ node_at w 1 → Taking p k w w 0 node
+  take-starts p k w node pos some l e =
       record {
+        at = 1;
+        here = e;
         long = l.long;
         as_long = refl;
         from = le_refl 1;
@@ -266,11 +274,17 @@ module _ (rows cols : List ℕ) where
         empty = λ i b z. z;
       }
 
-  pub take-ends : (p k : ℕ) (w₀ w : List ℕ) (sum at : ℕ) → 0 < records rows → Taking p k w₀ w sum at → (word_at w at ≡ k → ⊥) → Taken p rows cols k w₀ w sum
-  take-ends p k w₀ w sum at some t n = go t.found
+  -- the record that the loop's test found
+  pub taking_hand : (p k : ℕ) (w₀ w : List ℕ) (sum : ℕ) (node : Node) → 0 < k → Taking p k w₀ w sum node → node.key ≡ k → Hand w k node.tag
+  taking_hand p k w₀ w sum node pos t e =
+      subst (λ (x : Node). Hand w k x.tag) (sym t.here)
+      (hand w t.at k pos t.from t.within t.settled t.waiting (ap (λ (x : Node). x.key) (sym t.here) ∙ e))
+
+  pub take-ends : (p k : ℕ) (w₀ w : List ℕ) (sum : ℕ) (node : Node) → 0 < records rows → Taking p k w₀ w sum node → (node.key ≡ k → ⊥) → Taken p rows cols k w₀ w sum
+  take-ends p k w₀ w sum node some t n = go t.found
     where
-      go : (at ≡ 1) ⊎ (word_at w at ≡ k) → Taken p rows cols k w₀ w sum
-      go (inr e) = absurd (n e)
+      go : (t.at ≡ 1) ⊎ (word_at w t.at ≡ k) → Taken p rows cols k w₀ w sum
+      go (inr e) = absurd (n (ap (λ (x : Node). x.key) t.here ∙ e))
       go (inl e) =
           let s : Settled (records rows) 1 w = subst (λ x. Settled (records rows) x w) e t.settled in
           let l : Leaf (records rows) w 1 = tree_leaf (records rows) w 1 s (le_refl 1) (omega arith) in
@@ -284,16 +298,19 @@ module _ (rows cols : List ℕ) where
                 λ falls h.
                 let most : word_at w l.leaf ≤ k = t.lower falls h l.leaf l.from l.within in
                 let root : word_at w 1 ≡ word_at w l.leaf = l.copy.key in
-                let other : word_at w 1 ≢ k = λ d. n (ap (word_at w) e ∙ d) in
+                let other : word_at w 1 ≢ k = λ d. n (ap (λ (x : Node). x.key) t.here ∙ ap (word_at w) e ∙ d) in
                 omega arith;
             empty = t.empty;
           }
 
-  pub take-steps : (p k : ℕ) (w₀ w w' : List ℕ) (sum at tag e : ℕ) (x : Node) → 0 < p → 0 < k → Sides rows cols p → Taking p k w₀ w sum at →
-      Hand w k tag → Next cols (word_at rows (row_of tag)) (column_of tag) tag x → Climbed (records rows) (records rows + row_of tag) x.key x.tag k
-      w w' e → Taking p k w₀ w' ((sum + coef_at rows (row_of tag) * coef_at cols (column_of tag)) % p) e
-  take-steps p k w₀ w w' sum at tag e x pos kpos S t h nx c =
+  pub take-steps : (p k : ℕ) (w₀ w w' : List ℕ) (sum e : ℕ) (node x up : Node) → 0 < p → 0 < k → Sides rows cols p → Taking p k w₀ w sum node →
+      node.key ≡ k → let tag = node.tag in Next cols (word_at rows (row_of tag)) (column_of tag) tag x →
+      Climbed (records rows) (records rows + row_of tag) x.key x.tag k w w' e → up ≡ node_at w' e →
+      Taking p k w₀ w' ((sum + coef_at rows (row_of tag) * coef_at cols (column_of tag)) % p) up
+  take-steps p k w₀ w w' sum e node x up pos kpos S t found nx c here =
       record {
+        at = e;
+        here = here;
         long = omega (arith, t.long, c.as_long);
         as_long = c.as_long ∙ t.as_long;
         from = c.from;
@@ -309,6 +326,12 @@ module _ (rows cols : List ℕ) where
         empty = λ i b z. (c.others (records rows + i) (omega arith) (omega arith) (λ d. omega (arith, t.empty i b z, ap (word_at w) d, h.leaf_key))).0 ∙ t.empty i b z;
       }
     where
+      tag : ℕ
+      tag = node.tag
+
+      h : Hand w k tag
+      h = taking_hand p k w₀ w sum node kpos t found
+
       product : ℕ
       product = coef_at rows (row_of tag) * coef_at cols (column_of tag)
 

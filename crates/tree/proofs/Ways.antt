@@ -4,11 +4,13 @@
 --   above_parent, above_more, above_cases   what is above a record: the record above it, and what is above that
 --   above_less                   it has a lower place
 --   beside, beside_half          the other child of the record above
+--   node_written                 a record that was written
+--   greater_holds                a record that is written as the greater of its children holds
 --   settled_leaf                 a leaf may be written
 --   settled_up                   one step of a climb: the record above becomes the greater child
 --   settled_beside               two children of one record have the same way
 --   settled_root, root_settled   at the root the whole tree holds
---   tree_greatest                no record has a greater key than the root
+--   tree_greatest, leaf_greatest no record has a greater key than the root, and so no leaf
 --   Climbing, climb-starts, climb-steps, climb-ends   a climb, from the leaf written to its end
 --   tree_leaf                    a record of a tree is a copy of a leaf below it
 use Prim.Native.Nat.{ℕ, zero, suc, ◌+◌, ◌*◌, ◌/◌, ◌%◌, ◌^◌, ◌<◌, ◌≤◌}
@@ -21,9 +23,9 @@ use native.Mathlib.Omega.{arith}
 use lib.Bits.{bit_xor, xor_add_and, and_mask}
 use lib.ListN.{length}
 use Rattle.poly.specs.Words.{word_at}
-use Rattle.tree.specs.Tree.{tag_at, Copy, Holds, Tree, Above, Settled, Greater, Climbed}
+use Rattle.tree.specs.Tree.{tag_at, node_at, written, Copy, Holds, Tree, Above, Settled, Greater, Climbed}
 use Rattle.tree.specs.declared.Node.{Node}
-use Rattle.poly.proofs.Records.{put, put-length, put-word, put-coef, put_other}
+use Rattle.poly.proofs.Records.{put-length, put-word, put-coef, put_other}
 
 pub half_steps : (i m : ℕ) → i / 2 ^ suc m ≡ i / 2 / 2 ^ m
 half_steps i m = ap (λ (x : ℕ). i / x) (pow-succ' 2 m) ∙ sym (div-div-eq-div-mul i 2 (2 ^ m))
@@ -58,32 +60,52 @@ beside_half i = omega (arith, beside_place i)
 pub beside_from : (i : ℕ) → 1 < i → 1 ≤ beside i
 beside_from i h = omega (arith, beside_place i)
 
-module _ (n : ℕ) where
+module _ (w : List ℕ) (j : ℕ) (r : Node) where
+  pub node_written : 2 * j + 1 < length w → node_at (written r j w) j ≡ r
+  node_written h = λ d. record { key = put-word w j r.key r.tag h d; tag = put-coef w j r.key r.tag h d }
+
+  abbrev other : (y : ℕ) → (y ≡ j → ⊥) → (word_at (written r j w) y ≡ word_at w y) × (tag_at (written r j w) y ≡ tag_at w y)
+  other = put_other w j r.key r.tag
+
+  pub greater_holds : 1 ≤ j → 2 * j + 1 < length w → Greater (node_at w (2 * j)) (node_at w (2 * j + 1)) r → Holds (written r j w) j
+  greater_holds from h g =
+      let key : word_at (written r j w) j ≡ r.key = put-word w j r.key r.tag h in
+      record {
+        first = omega (arith, (other (2 * j) (λ e. omega arith)).0, g.first);
+        second = omega (arith, (other (2 * j + 1) (λ e. omega arith)).0, g.second);
+        copies = elim g.copies [ inl e ↦ inl (copy (2 * j) (omega arith) e) | inr e ↦ inr (copy (2 * j + 1) (omega arith) e) ];
+      }
+    where
+      copy : (y : ℕ) → j < y → r ≡ node_at w y → Copy (written r j w) j y
+      copy y l e =
+          let o = other y (λ d. omega arith) in
+          record {
+            key = put-word w j r.key r.tag h ∙ ap (λ (x : Node). x.key) e ∙ sym o.0;
+            tag = put-coef w j r.key r.tag h ∙ ap (λ (x : Node). x.tag) e ∙ sym o.1;
+          }
+
   -- a record that holds still holds where neither it nor a child of it was written
-  pub holds_other : (w : List ℕ) (x a b j : ℕ) → (j ≡ x → ⊥) → (j ≡ x / 2 → ⊥) → Holds w j → Holds (put w x a b) j
-  holds_other w x a b j n m h =
-      let at : (y : ℕ) → (y ≡ x → ⊥) → (word_at (put w x a b) y ≡ word_at w y) × (tag_at (put w x a b) y ≡ tag_at w y) = put_other w x a b in
-      let here = at j n in
-      let one = at (2 * j) (λ e. m (omega arith)) in
-      let two = at (2 * j + 1) (λ e. m (omega arith)) in
+  pub holds_other : (i : ℕ) → (i ≡ j → ⊥) → (i ≡ j / 2 → ⊥) → Holds w i → Holds (written r j w) i
+  holds_other i n m h =
+      let here = other i n in
+      let one = other (2 * i) (λ e. m (omega arith)) in
+      let two = other (2 * i + 1) (λ e. m (omega arith)) in
       record {
         first = omega (arith, h.first, here.0, one.0);
         second = omega (arith, h.second, here.0, two.0);
-        copies = copies here one two h.copies;
+        copies =
+            elim h.copies [
+              | inl c ↦ inl (record { key = here.0 ∙ c.key ∙ sym one.0; tag = here.1 ∙ c.tag ∙ sym one.1 })
+              | inr c ↦ inr (record { key = here.0 ∙ c.key ∙ sym two.0; tag = here.1 ∙ c.tag ∙ sym two.1 })
+            ];
       }
-    where
-      copies : (word_at (put w x a b) j ≡ word_at w j) × (tag_at (put w x a b) j ≡ tag_at w j) →
-          (word_at (put w x a b) (2 * j) ≡ word_at w (2 * j)) × (tag_at (put w x a b) (2 * j) ≡ tag_at w (2 * j)) →
-          (word_at (put w x a b) (2 * j + 1) ≡ word_at w (2 * j + 1)) × (tag_at (put w x a b) (2 * j + 1) ≡ tag_at w (2 * j + 1)) → Copy w j (2 * j)
-          ⊎ Copy w j (2 * j + 1) → Copy (put w x a b) j (2 * j) ⊎ Copy (put w x a b) j (2 * j + 1)
-      copies here one two (inl c) = inl (record { key = here.0 ∙ c.key ∙ sym one.0; tag = here.1 ∙ c.tag ∙ sym one.1 })
-      copies here one two (inr c) = inr (record { key = here.0 ∙ c.key ∙ sym two.0; tag = here.1 ∙ c.tag ∙ sym two.1 })
 
-  pub settled_leaf : (w : List ℕ) (x a b : ℕ) → n ≤ x → Settled n x w → Settled n x (put w x a b)
-  settled_leaf w x a b h s =
+module _ (n : ℕ) where
+  pub settled_leaf : (w : List ℕ) (x : ℕ) (r : Node) → n ≤ x → Settled n x w → Settled n x (written r x w)
+  settled_leaf w x r h s =
       record {
         settled =
-            λ j l k m. holds_other w x a b j (λ e. omega arith)
+            λ j l k m. holds_other w x r j (λ e. omega arith)
             (λ e. m (subst (Above x) (sym e) (above_parent x)))
             (s.settled j l k m);
       }
@@ -110,62 +132,23 @@ module _ (n : ℕ) where
   children : (i : ℕ) → ((i ≡ 2 * (i / 2)) × (beside i ≡ 2 * (i / 2) + 1)) ⊎ ((beside i ≡ 2 * (i / 2)) × (i ≡ 2 * (i / 2) + 1))
   children i = elim (ℕ_discrete (i % 2) 0) [ yes e ↦ inl (omega arith, omega (arith, beside_place i)) | no k ↦ inr (omega (arith, beside_place i), omega arith) ]
 
-  pub record Best (w : List ℕ) (i a b : ℕ) : Type 0 where
-    pub first : word_at w i ≤ a
-    pub second : word_at w (beside i) ≤ a
-    pub copies : ((a ≡ word_at w i) × (b ≡ tag_at w i)) ⊎ ((a ≡ word_at w (beside i)) × (b ≡ tag_at w (beside i)))
+  -- the greater of a record and the one beside it is the greater of their parent's children
+  siblings : (w : List ℕ) (i : ℕ) (r : Node) → Greater (node_at w i) (node_at w (beside i)) r → Greater (node_at w (2 * (i / 2))) (node_at w (2 * (i / 2) + 1)) r
+  siblings w i r g =
+      elim (children i) [
+        | inl e ↦ subst (λ (x : ℕ × ℕ). Greater (node_at w x.0) (node_at w x.1) r) (λ d. (e.0 d, e.1 d)) g
+        | inr e ↦ subst (λ (x : ℕ × ℕ). Greater (node_at w x.0) (node_at w x.1) r) (λ d. (e.0 d, e.1 d))
+            (record { first = g.second; second = g.first; copies = elim g.copies [ inl c ↦ inr c | inr c ↦ inl c ] })
+      ]
 
-  pub best_holds : (w : List ℕ) (i a b : ℕ) → 1 < i → 2 * (i / 2) + 1 < length w → Best w i a b → Holds (put w (i / 2) a b) (i / 2)
-  best_holds w i a b h l g = go (children i) g.copies
+  pub settled_up : (w : List ℕ) (i : ℕ) (r : Node) → 1 < i → 2 * (i / 2) + 1 < length w → Greater (node_at w i) (node_at w (beside i)) r → Settled n i w →
+      Settled n (i / 2) (written r (i / 2) w)
+  settled_up w i r h l g s = record { settled = λ j from below m. go j from below m (ℕ_discrete j (i / 2)) }
     where
-      w' : List ℕ
-      w' = put w (i / 2) a b
-
-      at : (y : ℕ) → i / 2 < y → (word_at w' y ≡ word_at w y) × (tag_at w' y ≡ tag_at w y)
-      at y k = put_other w (i / 2) a b y (λ e. omega arith)
-
-      key : word_at w' (i / 2) ≡ a
-      key = put-word w (i / 2) a b l
-
-      tag : tag_at w' (i / 2) ≡ b
-      tag = put-coef w (i / 2) a b l
-
-      -- a child that the record is a copy of
-      copy : (x y : ℕ) → x ≡ y → i / 2 < y → (a ≡ word_at w x) × (b ≡ tag_at w x) → Copy w' (i / 2) y
-      copy x y e k c =
-          record {
-            key = key ∙ c.0 ∙ ap (word_at w) e ∙ sym (at y k).0;
-            tag = tag ∙ c.1 ∙ ap (tag_at w) e ∙ sym (at y k).1;
-          }
-
-      low : i / 2 < 2 * (i / 2)
-      low = omega arith
-
-      high : i / 2 < 2 * (i / 2) + 1
-      high = omega arith
-
-      go : ((i ≡ 2 * (i / 2)) × (beside i ≡ 2 * (i / 2) + 1)) ⊎ ((beside i ≡ 2 * (i / 2)) × (i ≡ 2 * (i / 2) + 1)) →
-          ((a ≡ word_at w i) × (b ≡ tag_at w i)) ⊎ ((a ≡ word_at w (beside i)) × (b ≡ tag_at w (beside i))) → Holds w' (i / 2)
-      go (inl e) c =
-          record {
-            first = omega (arith, key, (at (2 * (i / 2)) low).0, ap (word_at w) e.0, g.first);
-            second = omega (arith, key, (at (2 * (i / 2) + 1) high).0, ap (word_at w) e.1, g.second);
-            copies = elim c [ inl d ↦ inl (copy i (2 * (i / 2)) e.0 low d) | inr d ↦ inr (copy (beside i) (2 * (i / 2) + 1) e.1 high d) ];
-          }
-      go (inr e) c =
-          record {
-            first = omega (arith, key, (at (2 * (i / 2)) low).0, ap (word_at w) e.0, g.second);
-            second = omega (arith, key, (at (2 * (i / 2) + 1) high).0, ap (word_at w) e.1, g.first);
-            copies = elim c [ inl d ↦ inr (copy i (2 * (i / 2) + 1) e.1 high d) | inr d ↦ inl (copy (beside i) (2 * (i / 2)) e.0 low d) ];
-          }
-
-  pub settled_up : (w : List ℕ) (i a b : ℕ) → 1 < i → 2 * (i / 2) + 1 < length w → Best w i a b → Settled n i w → Settled n (i / 2) (put w (i / 2) a b)
-  settled_up w i a b h l g s = record { settled = λ j from below m. go j from below m (ℕ_discrete j (i / 2)) }
-    where
-      go : (j : ℕ) → 1 ≤ j → j < n → (Above (i / 2) j → ⊥) → Dec (j ≡ i / 2) → Holds (put w (i / 2) a b) j
-      go j from below m (yes e) = subst (Holds (put w (i / 2) a b)) (sym e) (best_holds w i a b h l g)
+      go : (j : ℕ) → 1 ≤ j → j < n → (Above (i / 2) j → ⊥) → Dec (j ≡ i / 2) → Holds (written r (i / 2) w) j
+      go j from below m (yes e) = subst (Holds (written r (i / 2) w)) (sym e) (greater_holds w (i / 2) r (omega arith) l (siblings w i r g))
       go j from below m (no k) =
-          holds_other w (i / 2) a b j k (λ e. m (subst (Above (i / 2)) (sym e) (above_parent (i / 2))))
+          holds_other w (i / 2) r j k (λ e. m (subst (Above (i / 2)) (sym e) (above_parent (i / 2))))
           (s.settled j from below (λ c. elim (above_cases i c) [ inl e ↦ k e | inr d ↦ m d ]))
 
   -- no record has a greater key than the root
@@ -182,6 +165,9 @@ module _ (n : ℕ) where
 
   pub tree_greatest : (w : List ℕ) → Tree n w → (x : ℕ) → 1 ≤ x → x < 2 * n → word_at w x ≤ word_at w 1
   tree_greatest w t x h k = greatest w t x x (le_refl x) h k
+
+  pub leaf_greatest : (w : List ℕ) → Tree n w → (i : ℕ) → i < n → word_at w (n + i) ≤ word_at w 1
+  leaf_greatest w t i h = tree_greatest w t (n + i) (omega arith) (omega arith)
 
   pub record Leaf (w : List ℕ) (e : ℕ) : Type 0 where
     pub leaf : ℕ
@@ -218,75 +204,62 @@ module _ (n : ℕ) where
   pub beside_within : (i : ℕ) → i < 2 * n → beside i < 2 * n
   beside_within i h = omega (arith, beside_place i)
 
-  -- a climb that has come to record i, which holds a and b; w₀ is the array with the leaf written
-  pub record Climbing (w₀ w : List ℕ) (i a b : ℕ) : Type 0 where
+  -- a climb that has come to record i, which is r; w₀ is the array with the leaf written
+  pub record Climbing (w₀ w : List ℕ) (i : ℕ) (r : Node) : Type 0 where
     pub long : 4 * n ≤ length w
     pub as_long : length w ≡ length w₀
     pub from : 1 ≤ i
     pub within : i < 2 * n
-    pub key : word_at w i ≡ a
-    pub tag : tag_at w i ≡ b
+    pub here : r ≡ node_at w i
     pub settled : Settled n i w
     pub leaves : (y : ℕ) → n ≤ y → y < 2 * n → (word_at w y ≡ word_at w₀ y) × (tag_at w y ≡ tag_at w₀ y)
 
-  pub climb-starts : (w : List ℕ) (x a b : ℕ) → n ≤ x → x < 2 * n → 1 ≤ x → 4 * n ≤ length w → Settled n x w → Climbing (put w x a b) (put w x a b) x a b
-  climb-starts w x a b h k f l s =
+  pub climb-starts : (w : List ℕ) (x : ℕ) (r : Node) → n ≤ x → x < 2 * n → 1 ≤ x → 4 * n ≤ length w → Settled n x w → Climbing (written r x w) (written r x w) x r
+  climb-starts w x r h k f l s =
       record {
-        long = omega (arith, put-length w x a b);
+        long = omega (arith, put-length w x r.key r.tag);
         as_long = refl;
         from = f;
         within = k;
-        key = put-word w x a b (omega arith);
-        tag = put-coef w x a b (omega arith);
-        settled = settled_leaf w x a b h s;
+        here = sym (node_written w x r (omega arith));
+        settled = settled_leaf w x r h s;
         leaves = λ y g m. (refl, refl);
       }
 
-  pub climb-steps : (w₀ w : List ℕ) (i a b : ℕ) → Climbing w₀ w i a b → 1 < i → (g : Node) →
-      Greater (record { key = a; tag = b }) (record { key = word_at w (beside i); tag = tag_at w (beside i) }) g → Climbing w₀ (put w (i / 2) g.key g.tag) (i / 2) g.key g.tag
-  climb-steps w₀ w i a b c h g r =
+  pub climb-steps : (w₀ w w' : List ℕ) (i : ℕ) (best other up : Node) → Climbing w₀ w i best → 1 < i → other ≡ node_at w (beside i) → Greater best other up →
+      w' ≡ written up (i / 2) w → Climbing w₀ w' (i / 2) up
+  climb-steps w₀ w w' i best other up c h e g made =
       let l : 2 * (i / 2) + 1 < length w = omega (arith, c.long, c.within) in
-      record {
-        long = omega (arith, put-length w (i / 2) g.key g.tag, c.long);
-        as_long = put-length w (i / 2) g.key g.tag ∙ c.as_long;
+      subst (λ v. Climbing w₀ v (i / 2) up) (sym made)
+      (record {
+        long = omega (arith, put-length w (i / 2) up.key up.tag, c.long);
+        as_long = put-length w (i / 2) up.key up.tag ∙ c.as_long;
         from = omega arith;
         within = omega (arith, c.within);
-        key = put-word w (i / 2) g.key g.tag l;
-        tag = put-coef w (i / 2) g.key g.tag l;
-        settled = settled_up w i g.key g.tag h l best c.settled;
+        here = sym (node_written w (i / 2) up l);
+        settled = settled_up w i up h l (subst (λ (x : Node × Node). Greater x.0 x.1 up) (λ d. (c.here d, e d)) g) c.settled;
         leaves =
             λ y f k.
-            let o = put_other w (i / 2) g.key g.tag y (λ e. omega (arith, c.within)) in
+            let o = put_other w (i / 2) up.key up.tag y (λ d. omega (arith, c.within)) in
             let p = c.leaves y f k in
             (o.0 ∙ p.0, o.1 ∙ p.1);
-      }
-    where
-      best : Best w i g.key g.tag
-      best =
-          record {
-            first = omega (arith, c.key, r.first);
-            second = r.second;
-            copies =
-                elim r.copies [
-                  | inl e ↦ inl (ap (λ (x : Node). x.key) e ∙ sym c.key, ap (λ (x : Node). x.tag) e ∙ sym c.tag)
-                  | inr e ↦ inr (ap (λ (x : Node). x.key) e, ap (λ (x : Node). x.tag) e)
-                ];
-          }
+      })
 
-  pub climb-ends : (w w' : List ℕ) (x a b k e i a' b' : ℕ) → n ≤ x → x < 2 * n → 4 * n ≤ length w → Climbing (put w x a b) w' i a' b' → 1 ≤ e →
-      e < 2 * n → Settled n e w' → (e ≡ 1) ⊎ (word_at w' e ≡ k) → Climbed n x a b k w w' e
-  climb-ends w w' x a b k e i a' b' h l m c from within s found =
+  pub climb-ends : (w w₀ w' : List ℕ) (x : ℕ) (r : Node) (k e i : ℕ) (best : Node) → n ≤ x → x < 2 * n → 4 * n ≤ length w → w₀ ≡ written r x w →
+      Climbing w₀ w' i best → 1 ≤ e → e < 2 * n → Settled n e w' → (e ≡ 1) ⊎ (word_at w' e ≡ k) → Climbed n x r.key r.tag k w w' e
+  climb-ends w w₀ w' x r k e i best h l m made t from within s found =
+      let c : Climbing (written r x w) w' i best = subst (λ v. Climbing v w' i best) made t in
       record {
-        as_long = c.as_long ∙ put-length w x a b;
+        as_long = c.as_long ∙ put-length w x r.key r.tag;
         from = from;
         within = within;
         settled = s;
         found = found;
-        keyed = (c.leaves x h l).0 ∙ put-word w x a b (omega arith);
-        tagged = (c.leaves x h l).1 ∙ put-coef w x a b (omega arith);
+        keyed = (c.leaves x h l).0 ∙ put-word w x r.key r.tag (omega arith);
+        tagged = (c.leaves x h l).1 ∙ put-coef w x r.key r.tag (omega arith);
         others =
             λ y f g d.
             let p = c.leaves y f g in
-            let o = put_other w x a b y d in
+            let o = put_other w x r.key r.tag y d in
             (p.0 ∙ o.0, p.1 ∙ o.1);
       }

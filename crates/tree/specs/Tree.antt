@@ -5,6 +5,8 @@
 -- 2n − 1, and every record from 1 to n − 1 is a copy of the greater of its two children, the records 2j and 2j + 1.
 --
 --   tag_at w j            the tag of record j; its key is `word_at w j`
+--   node_at w j           record j
+--   written r j w         w with r in record j
 --   Copy w i j            record i is a copy of record j
 --   Holds w j             record j is a copy of a child, and neither child's key is greater
 --   Tree n w              every record from 1 to n − 1 holds
@@ -14,7 +16,7 @@
 --   Live                  all that the tree's functions ask for
 --   Above, Settled        the way from a record to the root; a tree that holds but on such a way
 --   Greater, Next, Climbed, Taken, Added, Planted, Built, Started   what the functions promise
-use Rattle.std.specs.Prelude.{ℕ, zero, suc, ◌+◌, ◌-◌, ◌*◌, ◌/◌, ◌%◌, ◌^◌, ◌<◌, ◌≤◌, ◌≡◌, List, [], ◌∷◌, ◌++◌, ◌⊎◌, length, get_or}
+use Rattle.std.specs.Prelude.{ℕ, zero, suc, ◌+◌, ◌-◌, ◌*◌, ◌/◌, ◌%◌, ◌^◌, ◌<◌, ◌≤◌, ◌≡◌, List, [], ◌∷◌, ◌++◌, ◌⊎◌, length, get_or, set}
 use Rattle.algebra.specs.Monomials.{Numbers}
 use Rattle.algebra.specs.Polynomials.{term, Poly, count, Equal, times, mul}
 use Rattle.poly.specs.Words.{records, word_at, coef_at, span}
@@ -23,6 +25,12 @@ use Rattle.tree.specs.declared.Node.{Node}
 -- the tag of record j, its second word
 abbrev pub tag_at : List ℕ → ℕ → ℕ
 tag_at w j = get_or w (2 * j + 1) 0
+
+abbrev pub node_at : List ℕ → ℕ → Node
+node_at w j = record { key = word_at w j; tag = tag_at w j }
+
+abbrev pub written : Node → ℕ → List ℕ → List ℕ
+written r j w = set (set w (2 * j) r.key) (2 * j + 1) r.tag
 
 pub record Copy (w : List ℕ) (i j : ℕ) : Type 0 where
   pub key : word_at w i ≡ word_at w j

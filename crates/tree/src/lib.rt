@@ -1,13 +1,17 @@
 // A winner tree in the work array, four words a row: it finds the greatest of the products for which the rows wait.
 // A climb touches one record a level, and nothing moves; a zeroed array is a tree in which nothing waits.
+// Rows, columns and work are three arguments and no struct: a division writes its rows, the quotient room, between two calls, so that
+// a struct would be made anew at each.
 #![tactic(auto)]
 
 ghost use Rattle.std.specs.Prelude.{◌≡◌, ℕ, ◌+◌, ◌*◌, ◌-◌, ◌<◌, ◌≤◌, ◌^◌, length};
 ghost use Rattle.moduli.specs.Moduli.{limit};
 ghost use Rattle.poly.specs.Words.{records, word_at};
-ghost use Rattle.tree.specs.Tree.{Live, Sides, Settled, Greater, Next, Climbed, Taken, Added, Planted, Built, Started};
+ghost use Rattle.tree.specs.Tree.{row_of, column_of, node_at, written, Live, Sides, Settled, Greater, Next, Climbed, Taken, Added, Planted, Built, Started};
 
-// What one row counts in a tag: the columns lie below.
+use poly::room::put_term;
+
+// What one row counts in a tag: the columns lie below. A row and a column share a word, since the lent work has four words a row.
 const ROW: u64 = 0x100000000;
 
 // A record of the tree.
@@ -15,6 +19,69 @@ const ROW: u64 = 0x100000000;
 pub struct Node {
     pub key: u64,
     pub tag: u64,
+}
+
+impl Node {
+    // The record of a row at a column.
+    fn new(key: u64, row: usize, column: usize) -> Node
+        requires { (row < 2 ^ 32) × (column < 2 ^ 32) }
+        ensures { (result.key ≡ key) × (result.tag ≡ row * 2 ^ 32 + column) }
+    {
+        Node {
+            key,
+            tag: row as u64 * ROW + column as u64,
+        }
+    }
+
+    // Record j of a work array.
+    pub fn at(work: &[u64], j: usize) -> Node
+        requires { j < records work.now }
+        ensures { result ≡ node_at work.now j }
+    {
+        Node {
+            key: work[2 * j],
+            tag: work[2 * j + 1],
+        }
+    }
+
+    // Writes it as record j of a work array.
+    pub fn put(self, work: &mut [u64], j: usize)
+        requires { j < records work.old }
+        ensures { work.new ≡ written self j work.old }
+    {
+        put_term(work, j, self.key, self.tag);
+    }
+
+    fn row(self) -> usize
+        ensures { result ≡ row_of self.tag }
+    {
+        (self.tag / ROW) as usize
+    }
+
+    fn column(self) -> usize
+        ensures { result ≡ column_of self.tag }
+    {
+        (self.tag % ROW) as usize
+    }
+
+    // The record of the same row, whose word is given, after this one.
+    fn after(self, word: u64, cols: &[u64]) -> Node
+        requires { (word < 2 ^ 63) × (column_of self.tag < records cols.now) × (self.tag < 2 ^ 64 - 1) × ((i : ℕ) → i < records cols.now → word_at cols.now i < 2 ^ 63) }
+        ensures { Next cols.now word (column_of self.tag) self.tag result }
+    {
+        let next = self.column() + 1;
+        if next < cols.len() / 2 {
+            Node {
+                key: word + cols[2 * next] + 1,
+                tag: self.tag + 1,
+            }
+        } else {
+            Node {
+                key: 0,
+                tag: self.tag,
+            }
+        }
+    }
 }
 
 // Takes all that waits at key k, and answers its coefficient modulo p. Where the climb from one record meets another of key k, that
@@ -26,15 +93,14 @@ pub fn take(p: u64, rows: &[u64], cols: &[u64], work: &mut [u64], k: u64) -> u64
     ensures { Taken p rows.now cols.now k work.old work.new result }
 {
     let count = rows.len() / 2;
-    let mut sum: u64 = 0;
-    let mut at: usize = 1;
-    while work[2 * at] == k {
-        let tag = work[2 * at + 1];
-        let row = (tag / ROW) as usize;
-        let column = (tag % ROW) as usize;
-        sum = (sum + rows[2 * row + 1] * cols[2 * column + 1]) % p;
-        let next = after(rows[2 * row], cols, column, tag);
-        at = climb(work, count, count + row, next.key, next.tag, k);
+    let mut sum = 0;
+    let mut node = Node::at(work, 1);
+    while node.key == k {
+        let row = node.row();
+        sum = (sum + rows[2 * row + 1] * cols[2 * node.column() + 1]) % p;
+        let next = node.after(rows[2 * row], cols);
+        let at = climb(work, count, count + row, next, k);
+        node = Node::at(work, at);
     }
     sum
 }
@@ -48,8 +114,7 @@ pub fn add(rows: &[u64], cols: &[u64], work: &mut [u64], row: usize, column: usi
 {
     let count = rows.len() / 2;
     let key = rows[2 * row] + cols[2 * column] + 1;
-    let tag = (row as u64) * ROW + (column as u64);
-    climb(work, count, count + row, key, tag, k);
+    climb(work, count, count + row, Node::new(key, row, column), k);
 }
 
 // Lets every row wait for its product with the first column.
@@ -69,12 +134,9 @@ fn plant(rows: &[u64], first: u64, work: &mut [u64])
     ensures { Planted rows.now first work.old (records rows.now) work.new }
 {
     let count = rows.len() / 2;
-    let mut i = 0;
-    while i < count {
-        let leaf = count + i;
-        work[2 * leaf] = rows[2 * i] + first + 1;
-        work[2 * leaf + 1] = (i as u64) * ROW;
-        i += 1;
+    for i in 0..count {
+        let key = rows[2 * i] + first + 1;
+        Node::new(key, i, 0).put(work, count + i);
     }
 }
 
@@ -83,36 +145,10 @@ pub fn build(work: &mut [u64], count: usize)
     requires { 4 * count ≤ length work.old }
     ensures { Built count work.old 1 work.new }
 {
-    let mut at = count;
-    while 1 < at {
-        at -= 1;
-        let first = Node {
-            key: work[2 * (2 * at)],
-            tag: work[2 * (2 * at) + 1],
-        };
-        let second = Node {
-            key: work[2 * (2 * at + 1)],
-            tag: work[2 * (2 * at + 1) + 1],
-        };
-        let up = better(first, second);
-        work[2 * at] = up.key;
-        work[2 * at + 1] = up.tag;
-    }
-}
-
-// The record of a row after the one at a column.
-fn after(word: u64, cols: &[u64], column: usize, tag: u64) -> Node
-    requires { (word < 2 ^ 63) × (column < records cols.now) × (tag < 2 ^ 64 - 1) × ((i : ℕ) → i < records cols.now → word_at cols.now i < 2 ^ 63) }
-    ensures { Next cols.now word column tag result }
-{
-    let next = column + 1;
-    if next < cols.len() / 2 {
-        Node {
-            key: word + cols[2 * next] + 1,
-            tag: tag + 1,
-        }
-    } else {
-        Node { key: 0, tag }
+    for at in (1..count).rev() {
+        let first = Node::at(work, 2 * at);
+        let second = Node::at(work, 2 * at + 1);
+        better(first, second).put(work, at);
     }
 }
 
@@ -124,28 +160,23 @@ fn better(a: Node, b: Node) -> Node
 }
 
 // Writes a leaf, and the records above it: up to the root, or until the record beside has the key k. Answers where it ended.
-fn climb(work: &mut [u64], count: usize, leaf: usize, key: u64, tag: u64, k: u64) -> usize
+fn climb(work: &mut [u64], count: usize, leaf: usize, node: Node, k: u64) -> usize
     requires within { (count ≤ leaf) × (leaf < 2 * count) × (4 * count ≤ length work.old) × (1 ≤ leaf) }
     requires settled { Settled count leaf work.old }
-    ensures { Climbed count leaf key tag k work.old work.new result }
+    ensures { Climbed count leaf node.key node.tag k work.old work.new result }
 {
     let mut at = leaf;
-    let mut best = Node { key, tag };
-    work[2 * at] = key;
-    work[2 * at + 1] = tag;
+    let mut best = node;
+    best.put(work, at);
     while 1 < at {
         let beside = at ^ 1;
-        let other = Node {
-            key: work[2 * beside],
-            tag: work[2 * beside + 1],
-        };
+        let other = Node::at(work, beside);
         if other.key == k {
             return beside;
         }
         best = better(best, other);
-        at = at / 2;
-        work[2 * at] = best.key;
-        work[2 * at + 1] = best.tag;
+        at /= 2;
+        best.put(work, at);
     }
     at
 }

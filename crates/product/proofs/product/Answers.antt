@@ -26,11 +26,11 @@ due c =
     (c.room.ensures ∙ ap (λ (d : Due). with_room d slice) c.two_inputs.ensures)
     c.first-due.ensures
 
-words : (c : After-first-due) → let s = c.args in 4 * c.smaller-least.result ≡ 4 * min (records s.a.now) (records s.b.now)
-words c = ap (λ n. 4 * n) c.smaller-least.ensures
+words : (c : After-first-due) → let s = c.args in 4 * c.min-least.result ≡ 4 * min (records s.a.now) (records s.b.now)
+words c = ap (λ n. 4 * n) c.min-least.ensures
 
 work : (c : After-first-due) → let s = c.args in
-    c.or_else-last.result ≡ or_else (work_rule (4 * c.smaller-least.result) s.work.now) none
+    c.or_else-last.result ≡ or_else (work_rule (4 * c.min-least.result) s.work.now) none
 work c =
     c.or_else-last.ensures ∙ (λ d. or_else (c.work_rule.ensures d) (c.done.ensures d))
 

@@ -3,7 +3,7 @@ use Rattle.tree.proofs.Ways.{Climbing}
 use Rattle.tree.proofs.climb.Given as goal
 
 abbrev pub invariant-loop-at : goal.invariant-loop-at
-invariant-loop-at l = Climbing l.count l.initial.work l.work l.at l.best.key l.best.tag
+invariant-loop-at l = Climbing l.count l.initial.work l.work l.at l.best
 
 abbrev pub decreases-loop-at : goal.decreases-loop-at
 decreases-loop-at l = l.at

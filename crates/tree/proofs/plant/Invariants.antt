@@ -1,11 +1,6 @@
 -- `tree::plant` meets its contract. The loop's invariant: the leaves of the rows up to i are planted.
-use Prim.Native.Nat.{◌-◌}
-use Rattle.poly.specs.Words.{records}
 use Rattle.tree.specs.Tree.{Planted}
 use Rattle.tree.proofs.plant.Given as goal
 
 abbrev pub invariant-loop-i : goal.invariant-loop-i
 invariant-loop-i l = Planted l.rows l.first l.initial.work l.i l.work
-
-abbrev pub decreases-loop-i : goal.decreases-loop-i
-decreases-loop-i l = records l.rows - l.i
