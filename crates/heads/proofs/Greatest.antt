@@ -2,10 +2,9 @@
 --
 --   remaining_below     all that remains is below a word where no key is greater
 --   remaining-none      nothing remains where no key does
---   nothing_taken       in an empty quotient room nothing waits
 --   headed              the dividend's head at the greatest key, less what waits there, is taken out of what remains
 use Prim.Native.Nat.{ℕ, ◌+◌, ◌-◌, ◌%◌, ◌<◌, ◌≤◌, max}
-use mathlib.Core.Path.{◌≡◌, refl, sym, ◌∙◌, ap, subst}
+use mathlib.Core.Path.{◌≡◌, sym, ◌∙◌, ap, subst}
 use mathlib.Core.List.{List, [], ◌∷◌, ◌++◌}
 use native.Mathlib.Nat.{pos_of_ne-zero, mod-lt, le-max_left, le-max_right}
 use mathlib.Core.Bool.{true}
@@ -14,8 +13,6 @@ use native.Mathlib.Omega.{arith}
 use Rattle.algebra.specs.Monomials.{Numbers}
 use Rattle.algebra.specs.Orders.{Rising}
 use Rattle.algebra.specs.Polynomials.{term, Poly, count, negated, Below, Alike}
-use Rattle.algebra.proofs.Residues.{same_eq}
-use Rattle.algebra.proofs.Totals.{equal_by}
 use Rattle.algebra.proofs.All.{all_append, negated_all}
 use Rattle.algebra.proofs.Sorted.{count-append, count-negated, head_count}
 use Rattle.poly.specs.Words.{records, word_at, span}
@@ -47,18 +44,6 @@ module _ (p : ℕ) (f g q w : List ℕ) (i : ℕ) (l : Live q g w) where
       let key : key_at f i ≡ 0 = omega (arith, first_most) in
       let root : word_at w 1 ≡ 0 = omega (arith, second_most) in
       λ d. span-done f i key d ++ negated p (awaited-none q g w l root d)
-
-pub nothing_taken : {p k : ℕ} {g q w : List ℕ} → 0 < p → 0 < k → word_at w 1 ≡ 0 → Live q g w → Taken p q g k w w 0
-nothing_taken pos some z l =
-    record {
-      as_long = refl;
-      live = l;
-      small = pos;
-      sums = equal_by (λ φ. same_eq (omega arith));
-      counts = λ m n. refl;
-      lower = λ falls h. omega arith;
-      empty = λ i b e. e;
-    }
 
 -- a sign hides no monomial
 counted : (p x : ℕ) (F L : Poly Numbers) → count {K = Numbers} x (F ++ negated p L) ≡ count {K = Numbers} x F + count {K = Numbers} x L

@@ -10,7 +10,6 @@ ghost use Rattle.poly.specs.Keys.{key_at};
 ghost use Rattle.heads.specs.Remaining.{Headed};
 
 use moduli::{add_mod, neg_mod};
-use numbers::greater;
 use poly::keys::{Head, head_at, key_at};
 use tree::take;
 
@@ -51,7 +50,7 @@ fn take_at(p: u64, q: &[u64], g: &[u64], work: &mut [u64], k: u64) -> u64
 pub fn root(work: &[u64]) -> u64
     ensures { result ≡ word_at work.now 1 }
 {
-    if work.len() <= 2 { 0 } else { work[2] }
+    work.get(2).copied().unwrap_or(0)
 }
 
 // The greatest key of what remains; 0 where nothing does.
@@ -59,5 +58,5 @@ pub fn greatest_key(f: &[u64], work: &[u64], i: usize) -> u64
     requires { i < records f.now → word_at f.now i < 2 ^ 63 }
     ensures { result ≡ max (key_at f.now i) (word_at work.now 1) }
 {
-    greater(key_at(f, i), root(work))
+    key_at(f, i).max(root(work))
 }

@@ -9,6 +9,8 @@ use Prim.Native.Nat.{ℕ, ◌+◌, ◌^◌, ◌≤◌, ◌<◌}
 use mathlib.Core.Path.{◌≡◌, refl, sym, ◌∙◌, ap}
 use mathlib.Core.Bool.{Bool, true, false}
 use mathlib.Core.List.{List}
+use Rattle.std.specs.Prelude.{Option, Some, None, is_some}
+use Rattle.std.specs.Option.{ForSome}
 use native.Mathlib.Omega.{arith}
 use lib.Dec.{ltb}
 use borrow.Author.Tests.{ltb-true}
@@ -24,7 +26,7 @@ use Rattle.poly.specs.Valid.{Valid}
 use Rattle.poly.proofs.Readings.{weight_within}
 use Rattle.poly.specs.Profiles.{maxima}
 use Rattle.judges.specs.Judges.{unless_full}
-use Rattle.judges.specs.Plans.{judges_by, judges_of, quotient_reply, remainder_reply, Ready}
+use Rattle.judges.specs.Plans.{is_test, judges_by, judges_of, quotient_reply, remainder_reply, Ready}
 use Rattle.judges.specs.declared.Plan.{Plan}
 use Rattle.poly.proofs.Maxima.{maxima-fits, under_maxima-fits}
 
@@ -34,7 +36,7 @@ pub prepared : (p : ℕ) (f g : List ℕ) (plan : Plan) →
     Valid p f × Valid p g →
     plan.inverse ≡ inverse p (coef_at g 0) →
     plan.maxima ≡ write base (maxima (poly_of base g)) →
-    (plan.test ≡ true → plan.bounds ≡ write base (maxima (poly_of base f))) →
+    ForSome plan.bounds (λ b. b ≡ write base (maxima (poly_of base f))) →
     Ready p f g plan
 prepared p f g plan s valid inverted largest bounds =
     record {
@@ -61,24 +63,24 @@ full_zero : (i room n : ℕ) → 0 < n → unless_full i room n ≡ 0 → i < ro
 full_zero i room n h e = ltb-true i room (pick_zero (ltb i room) 0 n h e).0
 
 module _ (f g : Poly (Letters 4)) (q r : ℕ) where
-  by_word : (b : Bool) (word i c divisor dividend : ℕ) →
+  by_word : (bounds : Option ℕ) (word i c divisor : ℕ) →
       is_monomial base word ≡ true →
       fit base (maxima g) ≡ true → fit base (maxima f) ≡ true →
-      divisor ≡ write base (maxima g) → (b ≡ true → dividend ≡ write base (maxima f)) →
-      (judges_by b f g q r).on_quotient i (term (read base word) c) ≡ quotient_reply b divisor dividend q word i
-  by_word true word i c divisor dividend h fg ff eg ef =
+      divisor ≡ write base (maxima g) → ForSome bounds (λ b. b ≡ write base (maxima f)) →
+      (judges_by (is_some bounds) f g q r).on_quotient i (term (read base word) c) ≡ quotient_reply divisor bounds q word i
+  by_word (Some dividend) word i c divisor h fg ff eg ef =
       let d = write base (maxima g) in
       let n = write base (maxima f) in
       ap (λ t. pick t (unless_full i q 10) 12)
       ((λ x. divides 4 ((Letters 4).mul (read base word) (sym (word-read base (maxima g) fg) x)) (sym (word-read base (maxima f) ff) x))
       ∙ sym (sum-divides base word d n h (word_monomial base (maxima g) fg) (word_monomial base (maxima f) ff)))
-      ∙ (λ x. quotient_reply true (sym eg x) (sym (ef refl) x) q word i)
-  by_word false word i c divisor dividend h fg ff eg ef =
+      ∙ (λ x. quotient_reply (sym eg x) (Some (sym (ef dividend refl) x)) q word i)
+  by_word None word i c divisor h fg ff eg ef =
       let d = write base (maxima g) in
       ap (λ t. pick t (unless_full i q 10) 9)
       ((λ x. fit base ((Letters 4).mul (read base word) (sym (word-read base (maxima g) fg) x)))
       ∙ sym (sum_monomial base word d h (word_monomial base (maxima g) fg)))
-      ∙ (λ x. quotient_reply false (sym eg x) dividend q word i)
+      ∙ (λ x. quotient_reply (sym eg x) None q word i)
 
   pub by_passes : (b : Bool) (a : (Letters 4).Mon) (i c : ℕ) →
       fit base (maxima f) ≡ true →
@@ -106,17 +108,17 @@ module _ (p : ℕ) (f g : List ℕ) (plan : Plan) (R : Ready p f g plan) where
   module _ (word : ℕ) (h : is_monomial base word ≡ true) (i c : ℕ) where
     -- what the judge says of this word
     abbrev pub judged : ℕ
-    judged = quotient_reply plan.test plan.maxima plan.bounds plan.quotients word i
+    judged = quotient_reply plan.maxima plan.bounds plan.quotients word i
 
     pub reply-word : (judges_of f g plan).on_quotient i (term (read base word) c) ≡ judged
     reply-word =
-        by_word (poly_of base f) (poly_of base g) plan.quotients plan.remainders plan.test word i c
-        plan.maxima plan.bounds h R.maxima_fit R.bounds_fit R.maxima_word R.bounds_word
+        by_word (poly_of base f) (poly_of base g) plan.quotients plan.remainders plan.bounds word i c
+        plan.maxima h R.maxima_fit R.bounds_fit R.maxima_word R.bounds_word
 
     module _ (e : judged ≡ 0) where
       passes : (fit base ((Letters 4).mul (read base word) (maxima (poly_of base g))) ≡ true) × (i < plan.quotients)
       passes =
-          by_passes (poly_of base f) (poly_of base g) plan.quotients plan.remainders plan.test (read base word) i c
+          by_passes (poly_of base f) (poly_of base g) plan.quotients plan.remainders (is_test plan) (read base word) i c
           R.bounds_fit (reply-word ∙ e)
 
       pub passes_room : i < plan.quotients

@@ -1,10 +1,12 @@
 -- What a walk computes once, and its judges on words: what the engine's own functions promise one another.
 --
+--   is_test                whether a plan is of the divide test
 --   judges_by, judges_of   the stops of a call: division's, or the divide test's
 --   quotient_reply         what the judge of quotient terms says of a word
 --   remainder_reply        what the judge of remainder terms says
 --   Ready                  all that a walk asks of its inputs, and what was computed once
-use Rattle.std.specs.Prelude.{ℕ, ◌+◌, ◌^◌, ◌<◌, ◌≤◌, ◌≡◌, Bool, true, false, List}
+use Rattle.std.specs.Prelude.{ℕ, ◌+◌, ◌^◌, ◌<◌, ◌≤◌, ◌≡◌, Bool, true, false, List, Option, Some, None, is_some}
+use Rattle.std.specs.Option.{ForSome}
 use Rattle.algebra.specs.Residues.{Prime, inverse, pick}
 use Rattle.algebra.specs.Monomials.{Letters}
 use Rattle.algebra.specs.Polynomials.{Poly}
@@ -17,17 +19,20 @@ use Rattle.poly.specs.Profiles.{maxima}
 use Rattle.judges.specs.Judges.{unless_full, division_judges, test_judges}
 use Rattle.judges.specs.declared.Plan.{Plan}
 
+abbrev pub is_test : Plan → Bool
+is_test plan = is_some plan.bounds
+
 abbrev pub judges_by : Bool → Poly (Letters 4) → Poly (Letters 4) → ℕ → ℕ → Judges (Letters 4)
 judges_by true f g q r = test_judges f g q
 judges_by false f g q r = division_judges g q r
 
 abbrev pub judges_of : List ℕ → List ℕ → Plan → Judges (Letters 4)
-judges_of f g plan = judges_by plan.test (poly_of base f) (poly_of base g) plan.quotients plan.remainders
+judges_of f g plan = judges_by (is_test plan) (poly_of base f) (poly_of base g) plan.quotients plan.remainders
 
--- by the words of the maxima of both inputs
-abbrev pub quotient_reply : Bool → ℕ → ℕ → ℕ → ℕ → ℕ → ℕ
-quotient_reply true largest bounds room word i = pick (word_divides base (word + largest) bounds) (unless_full i room 10) 12
-quotient_reply false largest bounds room word i = pick (is_monomial base (word + largest)) (unless_full i room 10) 9
+-- by the words of the maxima of the divisor, and of the dividend in the divide test
+abbrev pub quotient_reply : ℕ → Option ℕ → ℕ → ℕ → ℕ → ℕ
+quotient_reply largest (Some bounds) room word i = pick (word_divides base (word + largest) bounds) (unless_full i room 10) 12
+quotient_reply largest None room word i = pick (is_monomial base (word + largest)) (unless_full i room 10) 9
 
 abbrev pub remainder_reply : Bool → ℕ → ℕ → ℕ
 remainder_reply true room j = 12
@@ -44,5 +49,5 @@ pub record Ready (p : ℕ) (f g : List ℕ) (plan : Plan) : Type 0 where
   pub inverted : plan.inverse ≡ inverse p (coef_at g 0)
   pub maxima_word : plan.maxima ≡ word_of 16 4 (maxima (poly_of base g))
   pub maxima_fit : fits 16 4 (maxima (poly_of base g)) ≡ true
-  pub bounds_word : plan.test ≡ true → plan.bounds ≡ word_of 16 4 (maxima (poly_of base f))
+  pub bounds_word : ForSome plan.bounds (λ b. b ≡ word_of 16 4 (maxima (poly_of base f)))
   pub bounds_fit : fits 16 4 (maxima (poly_of base f)) ≡ true

@@ -2,25 +2,24 @@
 #![tactic(auto)]
 
 ghost use Rattle.std.specs.Prelude.{◌≡◌, true, ◌<◌, ◌≤◌, ◌^◌};
-ghost use Rattle.algebra.specs.Residues.{Prime};
+ghost use Rattle.algebra.specs.Residues.{Prime, pick};
+ghost use Rattle.reasons.specs.Reasons.{number_of, reply_of};
 ghost use Rattle.moduli.specs.Moduli.{limit};
 ghost use Rattle.monomial.specs.Layout.{base, is_monomial};
 ghost use Rattle.poly.specs.Words.{records};
 ghost use Rattle.poly.specs.Valid.{Valid};
-ghost use Rattle.judges.specs.Judges.{unless_full};
-ghost use Rattle.judges.specs.Plans.{quotient_reply, remainder_reply, Ready};
+ghost use Rattle.judges.specs.Plans.{is_test, quotient_reply, remainder_reply, Ready};
 
 use moduli::inverse_mod;
-use numbers::choose;
 use poly::profile::largest_word;
+use reasons::Reason;
 
-// Whether the call is the divide test; the words of the largest exponents of divisor and dividend, the second 0 where no test reads
-// it; the inverse of the divisor's lead coefficient; the terms that the rooms can hold.
+// The word of the divisor's largest exponents; in the divide test that of the dividend's, which bound them; the inverse of the
+// divisor's lead coefficient; the terms that the rooms can hold.
 #[derive(Clone, Copy)]
 pub struct Plan {
-    pub test: bool,
     pub maxima: u64,
-    pub bounds: u64,
+    pub bounds: Option<u64>,
     pub inverse: u64,
     pub quotients: usize,
     pub remainders: usize,
@@ -37,49 +36,41 @@ pub fn prepare(
 ) -> Plan
     requires within { (Prime p) × (p ≤ limit) × (0 < records g.now) × (records g.now < 2 ^ 32) }
     requires valid { (Valid p f.now) × (Valid p g.now) }
-    ensures { (Ready p f.now g.now result) × (result.test ≡ test) × (result.quotients ≡ quotients) × (result.remainders ≡ remainders) }
+    ensures { (Ready p f.now g.now result) × (is_test result ≡ test) × (result.quotients ≡ quotients) × (result.remainders ≡ remainders) }
 {
-    let mut plan = Plan {
-        test,
+    Plan {
         maxima: largest_word(g),
-        bounds: 0,
+        bounds: if test { Some(largest_word(f)) } else { None },
         inverse: inverse_mod(p, g[1]),
         quotients,
         remainders,
-    };
-    if test {
-        plan.bounds = largest_word(f);
     }
-    plan
 }
 
-// The reply that stops a quotient term, 0 where it passes. The sum of two words has the sums of their exponents.
-pub fn judge_quotient(plan: Plan, word: u64, terms: usize) -> u64
+// Whether a quotient term may be written. The sum of two words has the sums of their exponents.
+pub fn judge_quotient(plan: Plan, word: u64, terms: usize) -> Result<(), Reason>
     requires { (is_monomial base word ≡ true) × (is_monomial base plan.maxima ≡ true) }
-    ensures { result ≡ quotient_reply plan.test plan.maxima plan.bounds plan.quotients word terms }
+    ensures { reply_of result ≡ quotient_reply plan.maxima plan.bounds plan.quotients word terms }
 {
     let sum = word + plan.maxima;
-    let full = unless_full(terms, plan.quotients, 10);
-    if plan.test {
-        choose(monomial::divides(sum, plan.bounds), full, 12)
-    } else {
-        choose(monomial::is_monomial(sum), full, 9)
+    match plan.bounds {
+        Some(bounds) => ok_if(monomial::divides(sum, bounds), Reason::NotDivisible)?,
+        None => ok_if(monomial::is_monomial(sum), Reason::BigExponent)?,
     }
+    ok_if(terms < plan.quotients, Reason::NoRoom)
 }
 
-// The reply that stops a remainder term, 0 where it passes.
-pub fn judge_remainder(plan: Plan, terms: usize) -> u64
-    ensures { result ≡ remainder_reply plan.test plan.remainders terms }
+// Whether a remainder term may be written.
+pub fn judge_remainder(plan: Plan, terms: usize) -> Result<(), Reason>
+    ensures { reply_of result ≡ remainder_reply (is_test plan) plan.remainders terms }
 {
-    if plan.test {
-        return 12;
-    }
-    unless_full(terms, plan.remainders, 11)
+    ok_if(plan.bounds.is_none(), Reason::NotDivisible)?;
+    ok_if(terms < plan.remainders, Reason::NoRemainderRoom)
 }
 
-// The reply given where a room already holds its terms.
-fn unless_full(terms: usize, room: usize, reply: u64) -> u64
-    ensures { result ≡ unless_full terms room reply }
+// The reason given where a test did not pass.
+fn ok_if(passed: bool, reason: Reason) -> Result<(), Reason>
+    ensures { reply_of result ≡ pick passed 0 (number_of reason) }
 {
-    if terms < room { 0 } else { reply }
+    if passed { Ok(()) } else { Err(reason) }
 }

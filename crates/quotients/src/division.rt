@@ -8,13 +8,10 @@ ghost use Rattle.poly.specs.Valid.{Valid};
 ghost use Rattle.poly.specs.Words.{records};
 ghost use Rattle.refusals.specs.Rules.{input_terms};
 
-use calls::ending::{leave, report_of};
-use judges::prepare;
-use poly::room::clear;
+use crate::walk_in_rooms;
 use refusals::report::Report;
-use walk::run;
 
-// The division where none of 1 to 8 is due. The quotient room is cleared before, since its records are the rows of the tree.
+// The division where none of 1 to 8 is due.
 pub fn divide_good(
     p: u64,
     f: &[u64],
@@ -28,11 +25,5 @@ pub fn divide_good(
     ensures { outcome result q.new r.new work.new
         ≡ divided p f.now g.now q.old r.old work.old }
 {
-    clear(q, 0);
-    let plan = prepare(p, f, g, false, q.len() / 2, r.len() / 2);
-    let s = run(p, f, g, q, r, work, plan);
-    clear(work, 0);
-    leave(q, s.reply, s.quotient);
-    leave(r, s.reply, s.remainder);
-    report_of(s.reply, s.quotient, s.remainder)
+    walk_in_rooms(p, f, g, false, q, r, work)
 }

@@ -8,11 +8,8 @@ ghost use Rattle.poly.specs.Valid.{Valid};
 ghost use Rattle.poly.specs.Words.{records};
 ghost use Rattle.refusals.specs.Rules.{input_terms};
 
-use calls::ending::{leave, report_of};
-use judges::prepare;
-use poly::room::clear;
+use crate::walk_in_rooms;
 use refusals::report::Report;
-use walk::run;
 
 // The divide test where none of 1 to 8 is due. No remainder term is ever written.
 pub fn test_good(p: u64, f: &[u64], g: &[u64], q: &mut [u64], work: &mut [u64]) -> Report
@@ -21,11 +18,5 @@ pub fn test_good(p: u64, f: &[u64], g: &[u64], q: &mut [u64], work: &mut [u64]) 
     ensures { outcome result q.new [] work.new
         ≡ tested p f.now g.now q.old work.old }
 {
-    clear(q, 0);
-    let plan = prepare(p, f, g, true, q.len() / 2, 0);
-    let mut none: [u64; 1] = [0];
-    let s = run(p, f, g, q, &mut none, work, plan);
-    clear(work, 0);
-    leave(q, s.reply, s.quotient);
-    report_of(s.reply, s.quotient, 0)
+    walk_in_rooms(p, f, g, true, q, &mut [], work)
 }

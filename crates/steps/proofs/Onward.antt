@@ -28,6 +28,10 @@ use Rattle.algebra.proofs.Scan.{first_within}
 use Rattle.algebra.proofs.All.{all_append, negated_all}
 use Rattle.algebra.proofs.Sorted.{alike_all, sorted_head, sorted_same}
 use Rattle.algebra.proofs.Clauses.{joined-quotient, joined-remainder, quotient-stopped, remainder-stopped, walk_skips, walk-quotient, walk-remainder}
+use Rattle.std.specs.Prelude.{Ok, Err}
+use Rattle.reasons.specs.Reasons.{number_of}
+use Rattle.reasons.specs.declared.Reason.{Reason}
+use Rattle.reasons.proofs.Laws.{number_positive}
 use Rattle.moduli.specs.Moduli.{limit}
 use Rattle.monomial.specs.Layout.{base, word_divides}
 use Rattle.monomial.proofs.Laws.{read, monomial_fits, monomial_word, divides_iff, word_divides_lem, sum-exponents}
@@ -39,7 +43,7 @@ use Rattle.poly.proofs.Maxima.{word_small}
 use Rattle.poly.specs.Keys.{key_at}
 use Rattle.heads.specs.Remaining.{remaining, Headed}
 use Rattle.steps.specs.Walking.{seen, whole, walk_on, Walking, RowPut, Stepped}
-use Rattle.judges.specs.Plans.{judges_of, quotient_reply, remainder_reply, Ready}
+use Rattle.judges.specs.Plans.{is_test, judges_of, quotient_reply, remainder_reply, Ready}
 use Rattle.judges.specs.declared.Plan.{Plan}
 use Rattle.steps.specs.declared.State.{State}
 use Rattle.judges.proofs.Judging.{reply-word, passes_room, passes_fits, remainder_reply_lem, remainder-room}
@@ -48,8 +52,8 @@ use Rattle.poly.proofs.Heads.{max_lower}
 use Rattle.heads.proofs.Greatest.{remaining_below}
 use Rattle.steps.proofs.Rows.{rows_alike}
 
-abbrev pub state : ℕ → ℕ → ℕ → ℕ → State
-state i n j reply = record { next = i; quotient = n; remainder = j; reply = reply }
+abbrev pub state : ℕ → ℕ → ℕ → State
+state i n j = record { next = i; quotient = n; remainder = j }
 
 inverse_within : (p a : ℕ) → inverse p a ≤ 1 + (p - 1)
 unfolding inverse
@@ -126,15 +130,15 @@ module _ {p : ℕ} {f g : List ℕ} {plan : Plan} {q r w : List ℕ} {i n j k : 
   abbrev later : Poly (Letters 4)
   later = terms base g 1 (records g - 1)
 
-  pub step_skips : c ≡ 0 → Stepped p f g plan q r w k q r w' (state i' n j 0)
+  pub step_skips : c ≡ 0 → Stepped p f g plan q r w k q r w' (Ok (state i' n j))
   step_skips z =
       record {
         quotient_long = refl;
         remainder_long = refl;
         work_long = H.as_long;
-        stops = λ x. absurd (x refl);
+        stops = tt;
         goes_on =
-            λ x. record {
+            record {
               live = H.live;
               sides = W.sides;
               remainders = W.remainders;
@@ -152,7 +156,7 @@ module _ {p : ℕ} {f g : List ℕ} {plan : Plan} {q r w : List ℕ} {i n j k : 
                   onward
                   ∙ ap (joined quotients remainders) (walk_skips (Lex 4) p lead later judges less n j taken (seen p after) z);
             };
-        lower = λ x. H.lower;
+        lower = H.lower;
       }
 
   pub factors_small : (c ≤ limit) × (plan.inverse ≤ limit)
@@ -189,7 +193,7 @@ module _ {p : ℕ} {f g : List ℕ} {plan : Plan} {q r w : List ℕ} {i n j k : 
 
       -- what the judge says of the quotient's word
       abbrev pub says : ℕ
-      says = quotient_reply plan.test plan.maxima plan.bounds plan.quotients word n
+      says = quotient_reply plan.maxima plan.bounds plan.quotients word n
 
       judged :
           whole p f g plan ≡
@@ -204,19 +208,19 @@ module _ {p : ℕ} {f g : List ℕ} {plan : Plan} {q r w : List ℕ} {i n j k : 
       reply_is : judges.on_quotient n divided ≡ says
       reply_is = reply-word p f g plan R word quotient-word.0 n coef
 
-      pub step_stops_quotient : (reply : ℕ) → reply ≡ says → (reply ≡ 0 → ⊥) → Stepped p f g plan q r w k q r w' (state i' n j reply)
-      step_stops_quotient reply e z =
+      pub step_stops_quotient : (reason : Reason) → number_of reason ≡ says → Stepped p f g plan q r w k q r w' (Err reason)
+      step_stops_quotient reason e =
           record {
             quotient_long = refl;
             remainder_long = refl;
             work_long = H.as_long;
             stops =
-                λ x. ap (λ (y : Walked (Letters 4)). y.reply) judged
-                ∙ quotient-stopped divided (taken ∷ seen p after) _ (judges.on_quotient n divided) (λ y. z (e ∙ sym reply_is ∙ y))
+                ap (λ (y : Walked (Letters 4)). y.reply) judged
+                ∙ quotient-stopped divided (taken ∷ seen p after) _ (judges.on_quotient n divided) (λ y. omega (arith, number_positive reason, e ∙ sym reply_is ∙ y))
                 ∙ reply_is
                 ∙ sym e;
-            goes_on = λ x. absurd (z x);
-            lower = λ x. absurd (z x);
+            goes_on = tt;
+            lower = tt;
           }
 
       module _ (e : says ≡ 0) where
@@ -327,15 +331,15 @@ module _ {p : ℕ} {f g : List ℕ} {plan : Plan} {q r w : List ℕ} {i n j k : 
         now_written : quotients ++ (divided ∷ []) ≡ decoded_poly base (span q' 0 (n + 1))
         now_written = sym (decoded_append base (span q 0 n) (term word coef ∷ [])) ∙ ap (decoded_poly base) (sym stored)
 
-        pub step-divides : (reply : ℕ) → reply ≡ 0 → Stepped p f g plan q r w k q' r w'' (state i' (n + 1) j reply)
-        step-divides reply z =
+        pub step-divides : Stepped p f g plan q r w k q' r w'' (Ok (state i' (n + 1) j))
+        step-divides =
             record {
               quotient_long = long;
               remainder_long = refl;
               work_long = P.as_long ∙ H.as_long;
-              stops = λ x. absurd (x z);
+              stops = tt;
               goes_on =
-                  λ x. record {
+                  record {
                     live = P.live;
                     sides = sides;
                     remainders = W.remainders;
@@ -359,7 +363,7 @@ module _ {p : ℕ} {f g : List ℕ} {plan : Plan} {q r w : List ℕ} {i n j k : 
                         ∙ joined-quotient quotients remainders divided (taken ∷ seen p after) _ (judges.on_quotient n divided) (reply_is ∙ e)
                         ∙ (λ d. joined (now_written d) remainders (walk_on p f g plan less (sym (add-one n) d) j (next-seen d)));
                   };
-              lower = λ x. next_lower;
+              lower = next_lower;
             }
 
     module _ (d : word_divides base (word_at g 0) (k - 1) ≡ false) where
@@ -376,7 +380,7 @@ module _ {p : ℕ} {f g : List ℕ} {plan : Plan} {q r w : List ℕ} {i n j k : 
 
       -- what the judge says of the remainder term
       abbrev pub says_remainder : ℕ
-      says_remainder = remainder_reply plan.test plan.remainders j
+      says_remainder = remainder_reply (is_test plan) plan.remainders j
 
       kept :
           whole p f g plan ≡
@@ -385,25 +389,25 @@ module _ {p : ℕ} {f g : List ℕ} {plan : Plan} {q r w : List ℕ} {i n j k : 
       kept = onward ∙ ap (joined quotients remainders) (walk-remainder (Lex 4) p lead later judges less n j taken (seen p after) positive none)
 
       remainder_is : judges.on_remainder j taken ≡ says_remainder
-      remainder_is = remainder_reply_lem (poly_of base f) (poly_of base g) plan.quotients plan.remainders plan.test j taken
+      remainder_is = remainder_reply_lem (poly_of base f) (poly_of base g) plan.quotients plan.remainders (is_test plan) j taken
 
-      pub step_stops_remainder : (reply : ℕ) → reply ≡ says_remainder → (reply ≡ 0 → ⊥) → Stepped p f g plan q r w k q r w' (state i' n j reply)
-      step_stops_remainder reply e z =
+      pub step_stops_remainder : (reason : Reason) → number_of reason ≡ says_remainder → Stepped p f g plan q r w k q r w' (Err reason)
+      step_stops_remainder reason e =
           record {
             quotient_long = refl;
             remainder_long = refl;
             work_long = H.as_long;
             stops =
-                λ x. ap (λ (y : Walked (Letters 4)). y.reply) kept
-                ∙ remainder-stopped taken (taken ∷ seen p after) _ (judges.on_remainder j taken) (λ y. z (e ∙ sym remainder_is ∙ y))
+                ap (λ (y : Walked (Letters 4)). y.reply) kept
+                ∙ remainder-stopped taken (taken ∷ seen p after) _ (judges.on_remainder j taken) (λ y. omega (arith, number_positive reason, e ∙ sym remainder_is ∙ y))
                 ∙ remainder_is
                 ∙ sym e;
-            goes_on = λ x. absurd (z x);
-            lower = λ x. absurd (z x);
+            goes_on = tt;
+            lower = tt;
           }
 
-      pub remainder_asked : says_remainder ≡ 0 → j < records r
-      remainder_asked e = omega (arith, remainder-room plan.test plan.remainders j e, W.remainders)
+      remainder_asked : says_remainder ≡ 0 → j < records r
+      remainder_asked e = omega (arith, remainder-room (is_test plan) plan.remainders j e, W.remainders)
 
       module _ (e : says_remainder ≡ 0) {r' : List ℕ} (written : r' ≡ put r j (k - 1) c) where
         r-long : length r' ≡ length r
@@ -415,15 +419,15 @@ module _ {p : ℕ} {f g : List ℕ} {plan : Plan} {q r w : List ℕ} {i n j k : 
         r_now : remainders ++ (taken ∷ []) ≡ decoded_poly base (span r' 0 (j + 1))
         r_now = sym (decoded_append base (span r 0 j) (term (k - 1) c ∷ [])) ∙ ap (decoded_poly base) (sym r_stored)
 
-        pub step_moves : (reply : ℕ) → reply ≡ 0 → Stepped p f g plan q r w k q r' w' (state i' n (j + 1) reply)
-        step_moves reply z =
+        pub step_moves : Stepped p f g plan q r w k q r' w' (Ok (state i' n (j + 1)))
+        step_moves =
             record {
               quotient_long = refl;
               remainder_long = r-long;
               work_long = H.as_long;
-              stops = λ x. absurd (x z);
+              stops = tt;
               goes_on =
-                  λ x. record {
+                  record {
                     live = H.live;
                     sides = W.sides;
                     remainders = W.remainders ∙ ap (λ (y : ℕ). y / 2) (sym r-long);
@@ -444,5 +448,5 @@ module _ {p : ℕ} {f g : List ℕ} {plan : Plan} {q r w : List ℕ} {i n j k : 
                         ∙ joined-remainder quotients remainders taken (taken ∷ seen p after) _ (judges.on_remainder j taken) (remainder_is ∙ e)
                         ∙ (λ d. joined quotients (r_now d) (walk_on p f g plan less n (sym (add-one j) d) (seen p after)));
                   };
-              lower = λ x. H.lower;
+              lower = H.lower;
             }

@@ -5,11 +5,13 @@
 --   Walking          a walk that has come to record i of the dividend, with n quotient and j remainder terms written
 --   RowPut           a quotient term was written, and its products wait in the tree
 --   Stepped          what a step promises
-use Rattle.std.specs.Prelude.{ℕ, ◌+◌, ◌-◌, ◌*◌, ◌<◌, ◌≤◌, max, ◌≡◌, List, ◌++◌, length, set}
+use Rattle.std.specs.Prelude.{ℕ, ◌+◌, ◌-◌, ◌*◌, ◌<◌, ◌≤◌, max, ◌≡◌, List, ◌++◌, length, set, Result, IfOk, IfErr}
 use Rattle.algebra.specs.Monomials.{Letters, Numbers}
 use Rattle.algebra.specs.Orders.{Lex, Rising}
 use Rattle.algebra.specs.Polynomials.{term, Poly, times, sorted}
 use Rattle.algebra.specs.Walk.{Walked, walk, joined}
+use Rattle.reasons.specs.Reasons.{number_of}
+use Rattle.reasons.specs.declared.Reason.{Reason}
 use Rattle.monomial.specs.Layout.{base}
 use Rattle.poly.specs.Words.{records, word_at, term_at, terms, span, poly_of, decoded_poly, Monomial}
 use Rattle.tree.specs.Tree.{awaited, Live, Sides}
@@ -60,10 +62,11 @@ pub record RowPut (g q w : List ℕ) (n word coef k : ℕ) (q' w' : List ℕ) : 
   pub others : (x : ℕ) → x < records q → (x ≡ n → ⊥) → word_at w' (records q + x) ≡ word_at w (records q + x)
   pub lower : word_at w' 1 < k
 
-pub record Stepped (p : ℕ) (f g : List ℕ) (plan : Plan) (q r w : List ℕ) (k : ℕ) (q' r' w' : List ℕ) (s : State) : Type 0 where
+-- the walk goes on, with no key as great as before, or its reply is the number of the reason
+pub record Stepped (p : ℕ) (f g : List ℕ) (plan : Plan) (q r w : List ℕ) (k : ℕ) (q' r' w' : List ℕ) (end : Result State Reason) : Type 0 where
   pub quotient_long : length q' ≡ length q
   pub remainder_long : length r' ≡ length r
   pub work_long : length w' ≡ length w
-  pub stops : (s.reply ≡ 0 → ⊥) → (whole p f g plan).reply ≡ s.reply
-  pub goes_on : s.reply ≡ 0 → Walking p f g plan q' r' w' s.next s.quotient s.remainder
-  pub lower : s.reply ≡ 0 → max (key_at f s.next) (word_at w' 1) < k
+  pub stops : IfErr end (λ reason. (whole p f g plan).reply ≡ number_of reason)
+  pub goes_on : IfOk end (λ s. Walking p f g plan q' r' w' s.next s.quotient s.remainder)
+  pub lower : IfOk end (λ s. max (key_at f s.next) (word_at w' 1) < k)

@@ -12,18 +12,18 @@ use heads::take_head;
 use judges::{Plan, judge_quotient, judge_remainder};
 use moduli::mul_mod;
 use poly::room::put_term;
+use reasons::Reason;
 use tree::add;
 
-// The place in the dividend, the quotient and remainder terms written, and the reply that stopped the walk, 0 for none.
+// The place in the dividend, and the quotient and remainder terms written.
 #[derive(Clone, Copy)]
 pub struct State {
     pub next: usize,
     pub quotient: usize,
     pub remainder: usize,
-    pub reply: u64,
 }
 
-// Handles the greatest monomial of what remains, whose key is k.
+// Handles the greatest monomial of what remains, whose key is k, unless a judge stops the walk there.
 pub fn step(
     p: u64,
     f: &[u64],
@@ -34,40 +34,41 @@ pub fn step(
     plan: Plan,
     s: State,
     k: u64,
-) -> State
+) -> Result<State, Reason>
     requires head { (0 < k) × (k ≡ max (key_at f.now s.next) (word_at work.old 1)) × (s.quotient < plan.quotients → s.quotient < records q.old) }
     requires ready { Ready p f.now g.now plan }
     requires walking { Walking p f.now g.now plan q.old r.old work.old s.next s.quotient s.remainder }
     ensures { Stepped p f.now g.now plan q.old r.old work.old k q.new r.new work.new result }
 {
-    let n = s.quotient;
-    let j = s.remainder;
     let h = take_head(p, f, g, q, work, s.next, k);
-    let mut t = State {
-        next: h.next,
-        quotient: n,
-        remainder: j,
-        reply: 0,
-    };
+    let on = State { next: h.next, ..s };
     if h.coef == 0 {
-        return t;
+        return Ok(on);
     }
     let monomial = k - 1;
     if monomial::divides(g[0], monomial) {
         let word = monomial - g[0];
-        t.reply = judge_quotient(plan, word, n);
-        if t.reply == 0 {
-            put_row(g, q, work, n, word, mul_mod(p, h.coef, plan.inverse), k);
-            t.quotient = n + 1;
-        }
-        return t;
+        judge_quotient(plan, word, s.quotient)?;
+        put_row(
+            g,
+            q,
+            work,
+            s.quotient,
+            word,
+            mul_mod(p, h.coef, plan.inverse),
+            k,
+        );
+        return Ok(State {
+            quotient: s.quotient + 1,
+            ..on
+        });
     }
-    t.reply = judge_remainder(plan, j);
-    if t.reply == 0 {
-        put_term(r, j, monomial, h.coef);
-        t.remainder = j + 1;
-    }
-    t
+    judge_remainder(plan, s.remainder)?;
+    put_term(r, s.remainder, monomial, h.coef);
+    Ok(State {
+        remainder: s.remainder + 1,
+        ..on
+    })
 }
 
 // Writes a quotient term and lets its products wait, from the divisor's second term on.

@@ -2,13 +2,12 @@
 -- `Growing` of the crate tree.
 --
 --   rows_words                          the records of the front of a room
---   doubled                             the rows that a tree grows to
 --   Running                             the loop, before each step
 --   runs_first                          the first tree
 --   rows_asked                          what growing asks
 --   Grew, grows_on                      the tree after it grew, where a quotient term may be written as far as the room goes
---   runs_on, runs_ended, runs_stopped   after a step: the loop goes on, or ends; its work was as long as v
-use Prim.Native.Nat.{ℕ, zero, suc, ◌+◌, ◌-◌, ◌*◌, ◌/◌, ◌^◌, ◌<◌, ◌≤◌, max, min}
+--   runs_on, runs_ended                 after a step: the loop goes on, or ends; its work was as long as v
+use Prim.Native.Nat.{ℕ, zero, suc, ◌+◌, ◌-◌, ◌*◌, ◌/◌, ◌^◌, ◌<◌, ◌≤◌, max}
 use mathlib.Core.Path.{◌≡◌, refl, sym, ◌∙◌, ap, subst}
 use mathlib.Core.List.{List, [], ◌∷◌, ◌++◌}
 use mathlib.Core.Logic.{◌⊎◌, inl, inr}
@@ -21,6 +20,9 @@ use Rattle.algebra.specs.Orders.{Lex}
 use Rattle.algebra.specs.Polynomials.{Poly, term, negated}
 use Rattle.algebra.specs.Walk.{Walked, stopped, joined}
 use Rattle.algebra.proofs.Clauses.{walk-ends}
+use Rattle.std.specs.Prelude.{Result, Ok}
+use Rattle.std.proofs.lemmas.Result.{IfOk-at_ok}
+use Rattle.reasons.specs.declared.Reason.{Reason}
 use Rattle.monomial.specs.Layout.{base}
 use Rattle.poly.specs.Words.{records, word_at, coef_at, term_at, terms, span, decoded_poly, Monomial}
 use Rattle.growth.specs.Growth.{Grown}
@@ -32,8 +34,9 @@ use Rattle.walk.specs.Running.{Fresh, Enough, Ran}
 use Rattle.judges.specs.Plans.{judges_of, Ready}
 use Rattle.judges.specs.declared.Plan.{Plan}
 use Rattle.steps.specs.declared.State.{State}
+use Rattle.steps.proofs.Onward.{state}
 use Rattle.heads.proofs.Greatest.{remaining-none}
-use Rattle.walk.proofs.Runs.{smaller_of, walk-starts}
+use Rattle.walk.proofs.Runs.{walk-starts}
 
 -- The front of a room
 
@@ -50,21 +53,11 @@ module _ (q : List ℕ) (n : ℕ) (h : n ≤ records q) where
       let e = rows_words i (omega arith) in
       λ d. term {K = Numbers} (e.0 d) (e.1 d) ∷ span-rows (suc i) m (omega arith) d
 
--- twice the rows, as far as the room goes, are more where the room has more
-pub doubled : (rows room : ℕ) {m : ℕ} →
-    rows ≤ room → (0 < room → 0 < rows) → (rows ≡ room → ⊥) → m ≡ min (2 * rows) room → (0 < rows) × (rows < m) × (m ≤ room)
-doubled rows room h some n e =
-    let least = smaller_of (2 * rows) room e in
-    let less : rows < room = elim (dec_lt rows room) [ yes l ↦ l | no l ↦ absurd (n (omega arith)) ] in
-    let k : 0 < rows = some (omega arith) in
-    (k, elim least.2 [ inl d ↦ omega arith | inr d ↦ omega arith ], least.1)
-
 -- the loop, before each step
 pub record Running (p : ℕ) (f g : List ℕ) (plan : Plan) (q₀ r₀ w₀ q r w : List ℕ) (rows : ℕ) (s : State) (k : ℕ) : Type 0 where
   pub quotient_long : length q ≡ length q₀
   pub remainder_long : length r ≡ length r₀
   pub work_long : length w ≡ length w₀
-  pub goes : s.reply ≡ 0
   pub top : k ≡ max (key_at f s.next) (word_at w 1)
   pub room : plan.quotients ≡ records q
   pub long : 4 * records q ≤ length w
@@ -162,14 +155,13 @@ module _
 pub runs_first : {p : ℕ} {f g : List ℕ} {plan : Plan} → Ready p f g plan → {q r w₀ w : List ℕ} → Fresh p plan q r w₀ →
     {k : ℕ} → k ≡ max (key_at f 0) (word_at w 1) →
     (m rows : ℕ) → (length w ≡ length w₀) × ((i : ℕ) → i < m → get_or w i 0 ≡ 0) → 2 < m → 4 * rows ≤ m → rows ≤ records q → (0 < records q → 0 < rows) →
-    Running p f g plan q r w q r w rows (record { next = 0; quotient = 0; remainder = 0; reply = 0 }) k
+    Running p f g plan q r w q r w rows (state 0 0 0) k
 runs_first R {q} {r} {w₀} {w} F top m rows blank root front h some =
     let count = rows-count q rows h in
     record {
       quotient_long = refl;
       remainder_long = refl;
       work_long = refl;
-      goes = refl;
       top = top;
       room = F.quotients;
       long = omega (arith, F.long, blank.0);
@@ -199,7 +191,7 @@ module _ {p : ℕ} {f g : List ℕ} {plan : Plan} {q₀ r₀ w₀ q r w : List �
   taken_within : s.quotient ≤ rows
   taken_within = omega (arith, L.walking.quotient_within, rows-count q rows L.within)
 
-  pub runs_ended : {v : List ℕ} → length w₀ ≡ length v → k ≤ 0 → Ran p f g plan q₀ r₀ v q r w s
+  pub runs_ended : {v : List ℕ} → length w₀ ≡ length v → k ≤ 0 → Ran p f g plan q₀ r₀ v q r w (Ok s)
   runs_ended {v} e z =
       let W = L.walking in
       let i = s.next in
@@ -219,12 +211,15 @@ module _ {p : ℕ} {f g : List ℕ} {plan : Plan} {q₀ r₀ w₀ q r w : List �
         quotient_long = L.quotient_long;
         remainder_long = L.remainder_long;
         work_long = L.work_long ∙ e;
-        replies = ap (λ (x : Walked (Letters 4)). x.reply) done ∙ sym L.goes;
-        quotient_within = λ x. omega (arith, taken_within, L.within, ap (λ (y : ℕ). y / 2) L.quotient_long);
-        remainder_within = λ x. omega (arith, W.remainder_within, ap (λ (y : ℕ). y / 2) L.remainder_long);
-        quotient_monomials = λ x. subst Monomial here W.quotient_monomials;
-        remainder_monomials = λ x. W.remainder_monomials;
-        ends = λ x. done;
+        replies = ap (λ (x : Walked (Letters 4)). x.reply) done;
+        wrote =
+            record {
+              quotient_within = omega (arith, taken_within, L.within);
+              remainder_within = W.remainder_within;
+              quotient_monomials = subst Monomial here W.quotient_monomials;
+              remainder_monomials = W.remainder_monomials;
+              ends = done;
+            };
       }
 
   module _ {w' : List ℕ} {m : ℕ} (E₀ : Enough rows s.quotient (records q₀) w w' m) where
@@ -265,7 +260,7 @@ module _ {p : ℕ} {f g : List ℕ} {plan : Plan} {q₀ r₀ w₀ q r w : List �
             }
 
     -- after a step on the front of the room
-    module _ {front r' w'' : List ℕ} {t : State} (T : Stepped p f g plan (take (2 * m) q) r w' k front r' w'' t) where
+    module _ {front r' w'' : List ℕ} {end : Result State Reason} (T : Stepped p f g plan (take (2 * m) q) r w' k front r' w'' end) where
       abbrev q' : List ℕ
       q' = front ++ drop (2 * m) q
 
@@ -300,29 +295,14 @@ module _ {p : ℕ} {f g : List ℕ} {plan : Plan} {q₀ r₀ w₀ q r w : List �
       pub work_long : length w'' ≡ length w₀
       work_long = T.work_long ∙ grows_on.as_long ∙ L.work_long
 
-      pub runs_stopped : {v : List ℕ} → length w₀ ≡ length v → (t.reply ≡ 0 → ⊥) → Ran p f g plan q₀ r₀ v q' r' w'' t
-      runs_stopped e n =
-          record {
-            quotient_long = quotient_long;
-            remainder_long = remainder_long;
-            work_long = work_long ∙ e;
-            replies = T.stops n;
-            quotient_within = λ z. absurd (n z);
-            remainder_within = λ z. absurd (n z);
-            quotient_monomials = λ z. absurd (n z);
-            remainder_monomials = λ z. absurd (n z);
-            ends = λ z. absurd (n z);
-          }
-
-      pub runs_on : t.reply ≡ 0 → {k' : ℕ} → k' ≡ max (key_at f t.next) (word_at w'' 1) → Running p f g plan q₀ r₀ w₀ q' r' w'' m t k'
-      runs_on z e =
-          let W = T.goes_on z in
+      pub runs_on : (t : State) → end ≡ Ok t → {k' : ℕ} → k' ≡ max (key_at f t.next) (word_at w'' 1) → Running p f g plan q₀ r₀ w₀ q' r' w'' m t k'
+      runs_on t z e =
+          let W = IfOk-at_ok (λ x. Walking p f g plan front r' w'' x.next x.quotient x.remainder) z T.goes_on in
           let same : records q' ≡ records q = ap (λ (x : ℕ). x / 2) room-long in
           record {
             quotient_long = quotient_long;
             remainder_long = remainder_long;
             work_long = work_long;
-            goes = z;
             top = e;
             room = L.room ∙ sym same;
             long = omega (arith, same, L.long, T.work_long, grows_on.as_long);

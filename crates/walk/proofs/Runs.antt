@@ -2,18 +2,15 @@
 --
 --   zero-words             a cleared array has only zero words
 --   divisor-terms          a divisor is its first term and the later ones
---   smaller_of             the smaller of two numbers is one of them, and not above the other
---   front-cleared          the front of an array was cleared
 --   walk-starts            over a cleared tree the walk starts with the whole dividend
-use Prim.Native.Nat.{ℕ, suc, ◌+◌, ◌-◌, ◌*◌, ◌^◌, ◌<◌, ◌≤◌, min}
+use Prim.Native.Nat.{ℕ, suc, ◌+◌, ◌-◌, ◌*◌, ◌^◌, ◌<◌, ◌≤◌}
 use mathlib.Core.Path.{◌≡◌, sym, ◌∙◌, ap, subst}
 use mathlib.Core.List.{List, ◌∷◌, ◌++◌, append-nil}
-use mathlib.Core.Logic.{◌⊎◌, inl, inr}
-use native.Mathlib.Nat.{max-le, sub-zero, min-le_left, min-le_right, min-eq_left, min-eq_right}
+use mathlib.Core.Logic.{inl}
+use native.Mathlib.Nat.{max-le, sub-zero}
 use native.Mathlib.Decide.{dec_lt}
 use native.Mathlib.Omega.{arith}
-use lib.ListN.{length, get_or, take, drop, replicate, get_or-replicate, length-append, length-drop, length-replicate, get_or-append, get_or-eq_default}
-use lib.Seq.{length-take-le}
+use lib.ListN.{length, get_or, replicate, get_or-replicate, length-replicate, get_or-eq_default}
 use Rattle.algebra.specs.Orders.{Rising}
 use Rattle.algebra.specs.Polynomials.{negated, sorted}
 use Rattle.algebra.proofs.NormalForm.{reduced_small}
@@ -41,37 +38,6 @@ zero-words n i = elim (dec_lt i n) [
   | yes h ↦ get_or-replicate n i 0 0 h
   | no h ↦ get_or-eq_default (replicate n 0) 0 (omega (arith, length-replicate {A = ℕ} n 0))
 ]
-
-pub smaller_of : (n m : ℕ) {k : ℕ} → k ≡ min n m → (k ≤ n) × (k ≤ m) × ((k ≡ n) ⊎ (k ≡ m))
-smaller_of n m e = (
-  omega (arith, min-le_left n m),
-  omega (arith, min-le_right n m),
-  elim (dec_lt n m) [ yes h ↦ inl (e ∙ min-eq_left (omega arith)) | no h ↦ inr (e ∙ min-eq_right (omega arith)) ],
-)
-
-pub front-cleared : (w s : List ℕ) (words n : ℕ) →
-    n ≡ min words (length w) →
-    s ≡ take 0 (take n w) ++ replicate (length (take n w) - 0) 0 →
-    (length (s ++ drop n w) ≡ length w) × ((i : ℕ) → i < words → get_or (s ++ drop n w) i 0 ≡ 0)
-front-cleared w s words n e c = (same, zero)
-  where
-    h : n ≤ length w
-    h = (smaller_of words (length w) e).1
-
-    long : length s ≡ n
-    long = ap length c ∙ length-replicate (length (take n w) - 0) 0 ∙ sub-zero (length (take n w)) ∙ length-take-le n w h
-
-    same : length (s ++ drop n w) ≡ length w
-    same = omega (arith, length-append s (drop n w), long, length-drop n w)
-
-    here : (i : ℕ) → i < n → get_or (s ++ drop n w) i 0 ≡ 0
-    here i l = get_or-append s (drop n w) 0 i (omega (arith, long)) ∙ ap (λ (x : List ℕ). get_or x i 0) c ∙ zero-words (length (take n w) - 0) i
-
-    zero : (i : ℕ) → i < words → get_or (s ++ drop n w) i 0 ≡ 0
-    zero i l = elim (dec_lt i n) [
-      | yes b ↦ here i b
-      | no b ↦ get_or-eq_default (s ++ drop n w) 0 (elim (smaller_of words (length w) e).2 [ inl x ↦ absurd (omega arith) | inr x ↦ omega (arith, same) ])
-    ]
 
 -- a divisor is its first term and the later ones
 pub divisor-terms : (g : List ℕ) → 0 < records g → poly_of base g ≡ term_at base g 0 ∷ terms base g 1 (records g - 1)

@@ -1,9 +1,12 @@
 -- The whole walk on words: what the engine's own functions promise one another. No caller of a public function meets it.
 --
 --   Fresh            rooms and work in which a walk may start
---   Enough, Ran      what the growing tree and the whole loop promise
-use Rattle.std.specs.Prelude.{ℕ, ◌*◌, ◌^◌, ◌<◌, ◌≤◌, ◌≡◌, List, [], ◌⊎◌, length}
+--   Enough           what the growing tree promises
+--   Wrote, Ran       what the whole loop promises
+use Rattle.std.specs.Prelude.{ℕ, ◌*◌, ◌^◌, ◌<◌, ◌≤◌, ◌≡◌, List, [], ◌⊎◌, length, Result, IfOk}
 use Rattle.algebra.specs.Walk.{stopped, joined}
+use Rattle.reasons.specs.Reasons.{reply_of}
+use Rattle.reasons.specs.declared.Reason.{Reason}
 use Rattle.monomial.specs.Layout.{base}
 use Rattle.poly.specs.Words.{records, word_at, coef_at, span, decoded_poly, Monomial}
 use Rattle.growth.specs.Growth.{Grown}
@@ -26,14 +29,18 @@ pub record Enough (n taken room : ℕ) (w w' : List ℕ) (m : ℕ) : Type 0 wher
   pub free : taken ≤ n → taken < room → taken < m
   pub grown : ((m ≡ n) × (w' ≡ w)) ⊎ ((0 < n) × Grown n m w w')
 
-pub record Ran (p : ℕ) (f g : List ℕ) (plan : Plan) (q r w q' r' w' : List ℕ) (s : State) : Type 0 where
+-- what a walk that came to its end has written in its rooms
+pub record Wrote (p : ℕ) (f g : List ℕ) (plan : Plan) (q r : List ℕ) (s : State) : Type 0 where
+  pub quotient_within : s.quotient ≤ records q
+  pub remainder_within : s.remainder ≤ records r
+  pub quotient_monomials : Monomial (span q 0 s.quotient)
+  pub remainder_monomials : Monomial (span r 0 s.remainder)
+  pub ends :
+      whole p f g plan ≡ joined (decoded_poly base (span q 0 s.quotient)) (decoded_poly base (span r 0 s.remainder)) (stopped 0 [])
+
+pub record Ran (p : ℕ) (f g : List ℕ) (plan : Plan) (q r w q' r' w' : List ℕ) (end : Result State Reason) : Type 0 where
   pub quotient_long : length q' ≡ length q
   pub remainder_long : length r' ≡ length r
   pub work_long : length w' ≡ length w
-  pub replies : (whole p f g plan).reply ≡ s.reply
-  pub quotient_within : s.reply ≡ 0 → s.quotient ≤ records q
-  pub remainder_within : s.reply ≡ 0 → s.remainder ≤ records r
-  pub quotient_monomials : s.reply ≡ 0 → Monomial (span q' 0 s.quotient)
-  pub remainder_monomials : s.reply ≡ 0 → Monomial (span r' 0 s.remainder)
-  pub ends : s.reply ≡ 0 →
-      whole p f g plan ≡ joined (decoded_poly base (span q' 0 s.quotient)) (decoded_poly base (span r' 0 s.remainder)) (stopped 0 [])
+  pub replies : (whole p f g plan).reply ≡ reply_of end
+  pub wrote : IfOk end (λ s. Wrote p f g plan q' r' s)

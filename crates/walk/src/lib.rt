@@ -8,14 +8,14 @@ ghost use Rattle.walk.specs.Running.{Fresh, Enough, Ran};
 use growth::grow;
 use heads::greatest_key;
 use judges::Plan;
-use numbers::smaller;
 use poly::room::clear;
+use reasons::Reason;
 use steps::{State, step};
 
 // The rows of a new tree. It grows with the quotient, so that a room much longer than the quotient costs nothing.
 const FIRST_ROWS: usize = 16;
 
-// Walks down f by the divisor g, as the plan has it: the quotient in q, the remainder in r.
+// Walks down f by the divisor g, as the plan has it: the quotient in q, the remainder in r, or the reason that stopped the walk.
 pub fn run(
     p: u64,
     f: &[u64],
@@ -24,37 +24,33 @@ pub fn run(
     r: &mut [u64],
     work: &mut [u64],
     plan: Plan,
-) -> State
+) -> Result<State, Reason>
     requires ready { Ready p f.now g.now plan }
     requires fresh { Fresh p plan q.old r.old work.old }
     ensures { Ran p f.now g.now plan q.old r.old work.old q.new r.new work.new result }
 {
     let room = q.len() / 2;
-    let mut rows = smaller(FIRST_ROWS, room);
+    let mut rows = FIRST_ROWS.min(room);
     clear_front(work, 4 * FIRST_ROWS);
     let mut s = State {
         next: 0,
         quotient: 0,
         remainder: 0,
-        reply: 0,
     };
     let mut k = greatest_key(f, work, 0);
     while 0 < k {
         rows = enough_rows(work, rows, s.quotient, room);
-        s = step(p, f, g, &mut q[..2 * rows], r, work, plan, s, k);
-        if s.reply != 0 {
-            return s;
-        }
+        s = step(p, f, g, &mut q[..2 * rows], r, work, plan, s, k)?;
         k = greatest_key(f, work, s.next);
     }
-    s
+    Ok(s)
 }
 
 // Zero words at the front, so many or all that there are: a tree in which nothing waits. Growing writes all that lies behind.
 fn clear_front(work: &mut [u64], words: usize)
     ensures { (length work.new ≡ length work.old) × ((i : ℕ) → i < words → get_or work.new i 0 ≡ 0) }
 {
-    let count = smaller(words, work.len());
+    let count = words.min(work.len());
     clear(&mut work[..count], 0);
 }
 
@@ -63,13 +59,10 @@ fn enough_rows(work: &mut [u64], rows: usize, taken: usize, room: usize) -> usiz
     requires { (rows ≤ room) × (0 < room → 0 < rows) × (4 * room ≤ length work.old) }
     ensures { Enough rows taken room work.old work.new result }
 {
-    if taken < rows {
+    if taken < rows || rows == room {
         return rows;
     }
-    if rows == room {
-        return rows;
-    }
-    let more = smaller(2 * rows, room);
+    let more = (2 * rows).min(room);
     grow(work, rows, more);
     more
 }

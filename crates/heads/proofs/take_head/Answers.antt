@@ -1,7 +1,7 @@
 -- `heads::take_head` meets its contract.
-use Prim.Native.Nat.{◌+◌, ◌-◌, ◌%◌}
+use Prim.Native.Nat.{◌+◌, ◌%◌}
 use mathlib.Core.Path.{◌∙◌, ap}
-use native.Mathlib.Nat.{mod-lt, le-max_left}
+use native.Mathlib.Nat.{le-max_left}
 use native.Mathlib.Omega.{arith}
 use Rattle.poly.specs.Keys.{key_at}
 use Rattle.poly.specs.Words.{word_at}
@@ -22,13 +22,6 @@ head c =
     (omega (arith, c.requires.within.3, le-max_left (key_at a.f.now a.i) (word_at a.work.now 1)))
     c.head_at-h.result
     c.head_at-h.ensures
-
-pub add_mod-requires : goal.add_mod-requires
-add_mod-requires c = (
-  c.requires.within.1,
-  (head c).coefs c.args.p c.requires.within.0 (λ j h. (c.requires.valid.0.coefs j h).1),
-  omega (arith, c.neg_mod-minus.ensures, mod-lt (c.args.p - c.take_at.result) c.requires.within.0),
-)
 
 pub returns : goal.returns
 returns c =
