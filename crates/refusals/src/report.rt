@@ -6,7 +6,7 @@ use numbers::choose;
 
 // The number, the operand that it blames, a term index, and the terms of the first and the second output.
 #[repr(C)]
-#[derive(Clone, Copy)]
+#[derive(Clone, Copy, PartialEq, Eq, Debug)]
 pub struct Report {
     pub number: u64,
     pub operand: u64,
