@@ -5,7 +5,6 @@
 --   NAME-determined      two outcomes that the contract allows for the same arguments are equal
 use mathlib.Core.Path.{◌≡◌, sym, ◌∙◌}
 use Rattle.compared.proofs.words.lent_words.Reads as lent-words
-use Rattle.compared.proofs.words.both.Reads as both
 use Rattle.compared.proofs.words.same_report.Reads as same-report
 use Rattle.compared.proofs.words.rest_of.Reads as rest_of
 use Rattle.compared.proofs.words.holds.Reads as holds
@@ -16,12 +15,6 @@ lent_words-asks_nothing κs a = tt
 
 pub lent_words-determined : (κs : _) (a : _) (r r' : _) (s s' : _) → lent-words.Post κs a r s → lent-words.Post κs a r' s' → r ≡ r'
 lent_words-determined κs a r r' s s' p q = p.words ∙ sym q.words
-
-pub both-asks_nothing : (κs : _) (a : _) → both.Pre κs a
-both-asks_nothing κs a = tt
-
-pub both-determined : (κs : _) (a : _) (r r' : _) (s s' : _) → both.Post κs a r s → both.Post κs a r' s' → r ≡ r'
-both-determined κs a r r' s s' p q = p ∙ sym q
 
 pub same_report-asks_nothing : (κs : _) (a : _) → same-report.Pre κs a
 same_report-asks_nothing κs a = tt

@@ -3,7 +3,7 @@ ghost use Rattle.std.specs.Prelude.{◌≡◌, length};
 ghost use Rattle.calls.specs.Outcomes.{outcome};
 ghost use Rattle.compared.specs.Compared.{same_outcome, said};
 
-use crate::words::{both, holds, rest_of, same_report};
+use crate::words::{holds, rest_of, same_report};
 use refusals::report::Report;
 
 // What is written where nothing is, and an array that a call does not have.
@@ -26,7 +26,8 @@ pub fn outcome_said(
         (length first.now) (length second.now) (length work.now)) }
 {
     let rest = rest_of(says.number);
-    let last = both(holds(second, others, rest), holds(work, &ZERO, rest));
-    let arrays = both(holds(first, written, rest), last);
-    both(same_report(report, says), arrays)
+    same_report(report, says)
+        && holds(first, written, rest)
+        && holds(second, others, rest)
+        && holds(work, &ZERO, rest)
 }

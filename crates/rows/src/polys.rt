@@ -1,8 +1,6 @@
 // The calls on polynomials, each tried on a row. Rooms are given by their terms, and the work array by its words: they are front parts
 // of longer arrays, since their lengths are the row's.
-ghost use Rattle.std.specs.Prelude.{◌*◌, ◌≤◌, ◌≡◌, [], length};
-ghost use Rattle.claims.specs.Sheet.{product, division, divide_test};
-ghost use Rattle.compared.specs.Compared.{said};
+ghost use Rattle.std.specs.Prelude.{◌*◌, ◌≤◌, ◌≡◌};
 ghost use Rattle.rows.specs.Cases.{trial, product_row, division_row, test_row};
 
 use crate::Tried;
@@ -27,36 +25,12 @@ pub fn product_tried(
 {
     let mut room_words = lent_words();
     let mut work_words = lent_words();
-    let n = 2 * room;
-    product_in(
-        p,
-        a,
-        b,
-        &mut room_words[..n],
-        &mut work_words[..work],
-        says,
-        written,
-    )
-}
-
-fn product_in(
-    p: u64,
-    a: &[u64],
-    b: &[u64],
-    room: &mut [u64],
-    work: &mut [u64],
-    says: Report,
-    written: &[u64],
-) -> Tried
-    ensures { result
-        ≡ trial (product p a.now b.now room.old work.old
-        (said says written.now [] (length room.old) 0 (length work.old))) }
-{
+    let room = &mut room_words[..2 * room];
+    let work = &mut work_words[..work];
     let report = product::product(p, a, b, room, work);
-    let right = outcome_said(report, room, &ZERO, work, says, written, &ZERO);
     Tried {
         number: report.number,
-        right,
+        right: outcome_said(report, room, &ZERO, work, says, written, &ZERO),
     }
 }
 
@@ -79,42 +53,13 @@ pub fn division_tried(
     let mut q_words = lent_words();
     let mut r_words = lent_words();
     let mut work_words = lent_words();
-    let n = 2 * q;
-    let m = 2 * r;
-    division_in(
-        p,
-        f,
-        g,
-        &mut q_words[..n],
-        &mut r_words[..m],
-        &mut work_words[..work],
-        says,
-        quotient,
-        remainder,
-    )
-}
-
-fn division_in(
-    p: u64,
-    f: &[u64],
-    g: &[u64],
-    q: &mut [u64],
-    r: &mut [u64],
-    work: &mut [u64],
-    says: Report,
-    quotient: &[u64],
-    remainder: &[u64],
-) -> Tried
-    ensures { result
-        ≡ trial (division p f.now g.now q.old r.old work.old
-        (said says quotient.now remainder.now
-        (length q.old) (length r.old) (length work.old))) }
-{
+    let q = &mut q_words[..2 * q];
+    let r = &mut r_words[..2 * r];
+    let work = &mut work_words[..work];
     let report = divide(p, f, g, q, r, work);
-    let right = outcome_said(report, q, r, work, says, quotient, remainder);
     Tried {
         number: report.number,
-        right,
+        right: outcome_said(report, q, r, work, says, quotient, remainder),
     }
 }
 
@@ -133,35 +78,11 @@ pub fn test_tried(
 {
     let mut q_words = lent_words();
     let mut work_words = lent_words();
-    let n = 2 * q;
-    test_in(
-        p,
-        f,
-        g,
-        &mut q_words[..n],
-        &mut work_words[..work],
-        says,
-        quotient,
-    )
-}
-
-fn test_in(
-    p: u64,
-    f: &[u64],
-    g: &[u64],
-    q: &mut [u64],
-    work: &mut [u64],
-    says: Report,
-    quotient: &[u64],
-) -> Tried
-    ensures { result
-        ≡ trial (divide_test p f.now g.now q.old work.old
-        (said says quotient.now [] (length q.old) 0 (length work.old))) }
-{
+    let q = &mut q_words[..2 * q];
+    let work = &mut work_words[..work];
     let report = divides(p, f, g, q, work);
-    let right = outcome_said(report, q, &ZERO, work, says, quotient, &ZERO);
     Tried {
         number: report.number,
-        right,
+        right: outcome_said(report, q, &ZERO, work, says, quotient, &ZERO),
     }
 }

@@ -1,30 +1,23 @@
 -- `rows::polys::test_tried` meets its contract.
-use Prim.Native.Nat.{◌*◌}
-use mathlib.Core.List.{[]}
-use native.Mathlib.Omega.{arith}
+use Rattle.std.proofs.Common.{◌*◌, [], refl, rules, arith}
 use Rattle.division.specs.Division.{test_of}
-use Rattle.compared.proofs.Arrays.{part-long}
-use Rattle.rows.proofs.Said.{tried_lent}
+use Rattle.rows.proofs.Said.{tried_of}
 use Rattle.rows.proofs.polys.test_tried.Goals as goal
-
-pub slice_bounds-test_in-end : goal.slice_bounds-test_in-end
-slice_bounds-test_in-end c =
-    part-long (2 * c.args.q) 16384 _ c.requires.0 c.lent_words-q_words.ensures
-
-pub slice_bounds-test_in-end-2 : goal.slice_bounds-test_in-end-2
-slice_bounds-test_in-end-2 c =
-    part-long c.args.work 16384 _ c.requires.1 c.lent_words-work_words.ensures
 
 -- there is no second output: it counts as the part of no words of the first array
 pub returns : goal.returns
 returns c =
     let a = c.args in
-    tried_lent a.says a.quotient.now [] (λ room none work. test_of a.p a.f.now a.g.now room work)
-    (2 * a.q) 0 a.work 16384 _ _ _ _
+    tried_of a.says a.quotient.now [] (λ room none work. test_of a.p a.f.now a.g.now room work)
+    (2 * a.q) 0 a.work 16384 _ _ _ _ _ _ _ _
     c.requires.0
     (omega arith)
     c.requires.1
     c.lent_words-q_words.ensures
     c.lent_words-q_words.ensures
     c.lent_words-work_words.ensures
-    c.test_in.ensures
+    c.divides-report.ensures
+    (search rules)
+    refl
+    (search rules)
+    c.outcome_said.ensures
