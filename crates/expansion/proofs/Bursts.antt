@@ -1,12 +1,14 @@
 -- Largest exponents that add up to more than fits.
 --
---   bursts                  the test of one letter
---   burst-found             the first letter that bursts, by the exponents that the engine measured
---   burst_some              a letter that bursts, where the first is one of the four
---   no_burst, products-fit  where no letter bursts, every product of monomials fits
+--   bursts                   the test of one letter
+--   Over, Within, FirstOver  two exponents that burst, two that do not, and the answer of a search for the first that do
+--   burst-found              that answer is the first letter that bursts, by the exponents that the engine measured
+--   pair_small               the sum of two exponents that the engine measured
+--   burst_some               a letter that bursts, where the first is one of the four
+--   no_burst, products-fit   where no letter bursts, every product of monomials fits
 --   one_bursts, none_bursts  what an answer tells of the first letter that bursts
---   burst_comm              the factors may change places
---   sides                   two valid slices as rows and columns of a tree
+--   burst_comm               the factors may change places
+--   sides                    two valid slices as rows and columns of a tree
 use Prim.Native.Nat.{ℕ, zero, suc, ◌+◌, ◌^◌, ◌≤◌, ◌<◌}
 use mathlib.Core.Path.{◌≡◌, refl, sym, ◌∙◌, ap, subst}
 use mathlib.Core.Bool.{Bool, true, false}
@@ -14,11 +16,11 @@ use mathlib.Core.List.{List, [], ◌∷◌}
 use native.Mathlib.Nat.{add_comm}
 use native.Mathlib.Omega.{arith}
 use lib.Dec.{ltb}
+use lib.ListN.{length, get_or}
+use borrow.Author.Tests.{ltb-true, ltb-false}
 use Rattle.std.proofs.Common.{Option, Some, None, is_some}
 use Rattle.std.specs.List.{zip, AllWithin, HoldsAt}
 use Rattle.std.specs.Option.{MatchOption}
-use lib.ListN.{length, get_or}
-use borrow.Author.Tests.{ltb-true, ltb-false}
 use Rattle.algebra.specs.Residues.{first, pick}
 use Rattle.algebra.specs.Monomials.{Letters, exponent}
 use Rattle.algebra.specs.Orders.{exponent_adds}

@@ -1,5 +1,6 @@
 -- A tree that starts: its leaves are planted, and the records above them built.
 --
+--   build_more                           one record after the other, from the last to the root
 --   starts                               a tree so built waits for every product
 --   awaited_below                        where the columns fall, every product left is at most the root's
 --   awaited-none                         nothing is left where the root is empty
@@ -7,6 +8,7 @@ use Prim.Native.Nat.{ℕ, zero, suc, ◌+◌, ◌-◌, ◌*◌, ◌^◌, ◌<◌
 use mathlib.Core.Path.{◌≡◌, refl, sym, ◌∙◌, ap, subst}
 use mathlib.Core.List.{List, [], ◌++◌}
 use mathlib.Core.Logic.{inl, inr}
+use native.Mathlib.Decide.{ℕ_discrete}
 use native.Mathlib.Omega.{arith}
 use lib.ListN.{length}
 use Rattle.algebra.specs.Monomials.{Numbers}
@@ -14,9 +16,29 @@ use Rattle.algebra.specs.Orders.{Rising}
 use Rattle.algebra.specs.Polynomials.{term, times, mul, Below}
 use Rattle.algebra.proofs.All.{all_append}
 use Rattle.poly.specs.Words.{records, word_at, coef_at, span}
-use Rattle.tree.specs.Tree.{tag_at, row_of, column_of, Product, Waits, pending, awaited, Live, Planted, Built, Started}
-use Rattle.tree.proofs.Ways.{leaf_greatest}
+use Rattle.tree.specs.Tree.{tag_at, node_at, written, Holds, Greater, row_of, column_of, Product, Waits, pending, awaited, Live, Planted, Built, Started}
+use Rattle.tree.specs.declared.Node.{Node}
+use Rattle.poly.proofs.Records.{put-length, put_other}
+use Rattle.tree.proofs.Ways.{greater_holds, holds_other, leaf_greatest}
 use Rattle.tree.proofs.Taking.{pending-at, pending_empty}
+
+-- one record more is built, where `up` is the greater of its children a and b
+pub build_more : (n : ℕ) (w w' w'' : List ℕ) (j k : ℕ) (a b up : Node) → 4 * n ≤ length w → 1 ≤ j → j < n → k ≤ j + 1 → Built n w k w' →
+    a ≡ node_at w' (2 * j) → b ≡ node_at w' (2 * j + 1) → Greater a b up → w'' ≡ written up j w' → Built n w j w''
+build_more n w w' w'' j k a b up long from below near B e f g made =
+    subst (Built n w j) (sym made)
+    (record {
+      as_long = put-length w' j up.key up.tag ∙ B.as_long;
+      holds = λ i h l. elim (ℕ_discrete i j) [ yes d ↦ subst (Holds (written up j w')) (sym d) here | no d ↦ holds_other w' j up i d (λ x. omega arith) (B.holds i (omega arith) l) ];
+      leaves =
+          λ y h.
+          let o = put_other w' j up.key up.tag y (λ d. omega arith) in
+          let l = B.leaves y h in
+          (o.0 ∙ l.0, o.1 ∙ l.1);
+    })
+  where
+    here : Holds (written up j w') j
+    here = greater_holds w' j up from (omega (arith, B.as_long)) (subst (λ (x : Node × Node). Greater x.0 x.1 up) (λ d. (e d, f d)) g)
 
 module _ (rows cols : List ℕ) where
   -- the leaf of a row that waits at the first column
