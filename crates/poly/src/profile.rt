@@ -19,12 +19,13 @@ pub struct Profile {
 pub fn measure(s: &[u64]) -> Profile
     ensures { result ≡ measure_of s.now }
 {
+    let (records, _) = s.as_chunks::<2>();
     let mut x: u64 = 0;
     let mut y: u64 = 0;
     let mut z: u64 = 0;
     let mut t: u64 = 0;
     let mut total: u64 = 0;
-    for record in s.chunks_exact(2) {
+    for record in records {
         let word = record[0];
         let ex = exponent(word, 0);
         let ey = exponent(word, 1);
@@ -37,7 +38,7 @@ pub fn measure(s: &[u64]) -> Profile
         total = total.max(ex + ey + ez + et);
     }
     Profile {
-        terms: (s.len() / 2) as u64,
+        terms: records.len() as u64,
         exponents: [x, y, z, t],
         total,
     }

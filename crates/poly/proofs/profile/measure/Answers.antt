@@ -1,45 +1,48 @@
-use Prim.Native.Nat.{◌+◌, ◌<◌}
-use mathlib.Core.Path.{◌≡◌}
-use mathlib.Core.List.{[], ◌∷◌}
+use Prim.Native.Nat.{ℕ, ◌+◌, ◌<◌}
+use mathlib.Core.Path.{◌≡◌, ◌∙◌, ap}
+use mathlib.Core.List.{List, [], ◌∷◌}
 use native.Mathlib.Omega.{arith}
-use lib.ListN.{length, get_or}
-use Rattle.algebra.specs.Monomials.{exponent, degree}
-use Rattle.monomial.specs.Layout.{exponents_of}
-use Rattle.poly.specs.Words.{records}
+use lib.ListN.{get_or}
+use Rattle.algebra.specs.Monomials.{Letters, exponent, degree}
+use Rattle.algebra.specs.Polynomials.{largest}
+use Rattle.monomial.specs.Layout.{base, exponents_of}
+use Rattle.poly.specs.Words.{records, word_at, terms, poly_of}
 use Rattle.poly.specs.Profiles.{measure_of}
-use Rattle.poly.proofs.Measures.{reached_more, reached-all}
+use Rattle.poly.proofs.Measures.{chunk_word, largest_more}
 use Rattle.poly.proofs.profile.measure.Goals as goal
 
 pub loop-record-preserved : goal.loop-record-preserved
 loop-record-preserved c =
     let l = c.loop-record.invariant in
-    let step = c.in-Some.ensures.steps in
-    let first = c.in-Some.record.now in
-    let left = c.next.new.self.rest.now in
-    let two : length first ≡ 2 = omega (arith, step.1.1, l.size) in
+    let s = c.args.s.now in
+    let i = c.loop-record.record-index in
+    let within : i < records s = omega (arith, c.loop-record-test.true, c.as_chunks.ensures.front_len) in
+    let word : get_or (get_or c.as_chunks.result.0.now i []) 0 0 ≡ word_at s i =
+    ap (λ (rs : List (List ℕ)). get_or (get_or rs i []) 0 0) c.as_chunks.ensures.front ∙ chunk_word s (records s) i within (omega arith) in
+    let of_word = λ (w : (Letters 4).Mon → ℕ). ap (λ (m : ℕ). w (exponents_of 16 4 m)) word in
     let x = c.exponent-ex in
     let y = c.exponent-ey in
     let z = c.exponent-ez in
     let t = c.exponent-et in
-    let sum : x.result + y.result + z.result + t.result ≡ degree 4 (exponents_of 16 4 (get_or first 0 0)) =
-    omega (arith, x.ensures, y.ensures, z.ensures, t.ensures) in
+    let sum : x.result + y.result + z.result + t.result ≡ degree 4 (exponents_of 16 4 (word_at s i)) =
+    omega (arith, x.ensures, y.ensures, z.ensures, t.ensures, of_word (degree 4)) in
     record {
-      size = omega (arith, step.0, l.size);
-      x = reached_more (exponent 4 0) first left l.x step.1.0 two x.ensures c.max-x.ensures;
-      y = reached_more (exponent 4 1) first left l.y step.1.0 two y.ensures c.max-y.ensures;
-      z = reached_more (exponent 4 2) first left l.z step.1.0 two z.ensures c.max-z.ensures;
-      t = reached_more (exponent 4 3) first left l.t step.1.0 two t.ensures c.max-t.ensures;
-      total = reached_more (degree 4) first left l.total step.1.0 two sum c.max-total.ensures;
+      x = largest_more (exponent 4 0) s i (x.ensures ∙ of_word (exponent 4 0)) l.x c.max-x.ensures;
+      y = largest_more (exponent 4 1) s i (y.ensures ∙ of_word (exponent 4 1)) l.y c.max-y.ensures;
+      z = largest_more (exponent 4 2) s i (z.ensures ∙ of_word (exponent 4 2)) l.z c.max-z.ensures;
+      t = largest_more (exponent 4 3) s i (t.ensures ∙ of_word (exponent 4 3)) l.t c.max-t.ensures;
+      total = largest_more (degree 4) s i sum l.total c.max-total.ensures;
     }
 
 pub returns : goal.returns
-unfolding measure_of
+unfolding measure_of poly_of
 returns c =
     let l = c.loop-record.invariant in
-    let short : length c.loop-record.record-iterator.rest.now < 2 = omega (arith, c.in-None.ensures.steps.1.0, l.size) in
-    λ i. record {
-      terms = records c.args.s.now;
-      exponents = reached-all (exponent 4 0) l.x short i ∷ reached-all (exponent 4 1) l.y short i ∷ reached-all (exponent 4 2) l.z short i ∷
-          reached-all (exponent 4 3) l.t short i ∷ [];
-      total = reached-all (degree 4) l.total short i;
+    let s = c.args.s.now in
+    let all : c.loop-record.record-index ≡ records s = omega (arith, c.loop-record-test.false, c.loop-record.auto.record-index-end, c.as_chunks.ensures.front_len) in
+    let of_all = λ (w : (Letters 4).Mon → ℕ). ap (λ (n : ℕ). largest w (terms base s 0 n)) all in
+    λ d. record {
+      terms = c.as_chunks.ensures.front_len d;
+      exponents = (l.x ∙ of_all (exponent 4 0)) d ∷ (l.y ∙ of_all (exponent 4 1)) d ∷ (l.z ∙ of_all (exponent 4 2)) d ∷ (l.t ∙ of_all (exponent 4 3)) d ∷ [];
+      total = (l.total ∙ of_all (degree 4)) d;
     }
