@@ -38,7 +38,7 @@ pub fn told(end: Result<(usize, usize), Reason>) -> Report
     }
 }
 
-// The report with a reply, and the terms of both outputs where it is 0. Replies are numbers here, as docs/DECISIONS.md names it.
+// The same by the number of a reply. It stays with what it promised, since docs/DECISIONS.md names it.
 pub fn report_of(reply: u64, first: usize, second: usize) -> Report
     ensures { result ≡ told reply first second }
 {

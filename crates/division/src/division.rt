@@ -25,7 +25,7 @@ pub fn divide(
         .room(3, INPUT_TERMS, q)
         .room(4, ROOM_TERMS, r)
         .first(p, last_rules(g, q, work));
-    if due.number != 0 {
+    if !due.is_done() {
         return due;
     }
     divide_good(p, f, g, q, r, work)

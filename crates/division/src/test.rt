@@ -17,7 +17,7 @@ pub fn divides(p: u64, f: &[u64], g: &[u64], q: &mut [u64], work: &mut [u64]) ->
     let due = two_inputs(p, f, g)
         .room(3, INPUT_TERMS, q)
         .first(p, last_rules(g, q, work));
-    if due.number != 0 {
+    if !due.is_done() {
         return due;
     }
     test_good(p, f, g, q, work)

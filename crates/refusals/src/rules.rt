@@ -1,5 +1,5 @@
 // The refusals 1 to 8. A call folds those that it has with `or_else`, in the order in which they win.
-#![tactic(auto, unfolding(crate::specs::Rules::odd_rule, crate::specs::Rules::long_rule, crate::specs::Rules::divisor_rule, crate::specs::Rules::work_rule))]
+#![tactic(auto, unfolding(crate::specs::Rules::modulus_rule, crate::specs::Rules::odd_rule, crate::specs::Rules::long_rule, crate::specs::Rules::divisor_rule, crate::specs::Rules::work_rule))]
 
 ghost use Rattle.std.specs.Prelude.{◌≡◌, ◌<◌};
 ghost use Rattle.reasons.specs.Reasons.{number_of};
@@ -39,7 +39,7 @@ pub fn at_term(reason: Reason, operand: u64, index: u64, count: u64) -> Report
 pub fn modulus_rule(p: u64) -> Report
     ensures { result ≡ modulus_rule p }
 {
-    unless(moduli::modulus(p) == 0, Reason::BadModulus, 0)
+    unless(moduli::is_modulus(p), Reason::BadModulus, 0)
 }
 
 // 2: odd length.

@@ -1,6 +1,7 @@
 -- `division::division::divide` meets its contract.
 use mathlib.Core.Path.{◌≡◌, ◌∙◌, ap}
 use mathlib.Core.List.{[], ◌∷◌}
+use Rattle.refusals.proofs.Reports.{done_number, refused_number}
 use Rattle.refusals.specs.Reports.{none, first_or}
 use Rattle.refusals.specs.Rules.{lent, input_terms, room_terms}
 use Rattle.dues.specs.Dues.{with_room}
@@ -24,22 +25,22 @@ told c =
     c.last_rules.ensures
     c.first-due.ensures
 
-pub returns-then-due-ne0 : goal.returns-then-due-ne0
+pub returns-then-not-is_done : goal.returns-then-not-is_done
 unfolding divide_of
-returns-then-due-ne0 c =
+returns-then-not-is_done c =
     let a = c.args in
-    refused_tells (divide_rules a.p a.f.now a.g.now a.q.now a.r.now a.work.now) c.first-due.result (told (goal.at.returns-then-due-ne0 c).After-first-due)
+    refused_tells (divide_rules a.p a.f.now a.g.now a.q.now a.r.now a.work.now) c.first-due.result (told (goal.at.returns-then-not-is_done c).After-first-due)
     a.q.now
     a.r.now
     a.work.now
     (divided a.p a.f.now a.g.now a.q.now a.r.now a.work.now)
-    c.if-due-ne0.true
+    (refused_number c.first-due.result c.is_done.ensures c.if-not-is_done.true)
 
 pub divide_good-requires : goal.divide_good-requires
 divide_good-requires c =
     let a = c.args in
     let W = (rules_walkable a.p a.f.now a.g.now a.q.now a.work.now (lent 4 a.r.now room_terms ∷ [])
-    (told (goal.at.divide_good-requires c).After-first-due) c.if-due-ne0.false).0 in
+    (told (goal.at.divide_good-requires c).After-first-due) (done_number c.first-due.result c.is_done.ensures c.if-not-is_done.false)).0 in
     let G = W.good in record {
       inputs = (G.prime, G.within, G.first, G.second, W.some, G.second_short);
       rooms = (W.room_short, W.long);
@@ -55,4 +56,4 @@ returns c =
     a.r.now
     a.work.now
     (divided a.p a.f.now a.g.now a.q.now a.r.now a.work.now)
-    c.if-due-ne0.false
+    (done_number c.first-due.result c.is_done.ensures c.if-not-is_done.false)

@@ -1,6 +1,7 @@
 -- `division::test::divides` meets its contract.
 use mathlib.Core.Path.{◌≡◌, ◌∙◌, ap}
 use mathlib.Core.List.{[], ◌∷◌}
+use Rattle.refusals.proofs.Reports.{done_number, refused_number}
 use Rattle.refusals.specs.Reports.{none, first_or}
 use Rattle.refusals.specs.Rules.{lent, input_terms}
 use Rattle.dues.specs.Dues.{with_room}
@@ -23,19 +24,19 @@ told c =
     c.last_rules.ensures
     c.first-due.ensures
 
-pub returns-then-due-ne0 : goal.returns-then-due-ne0
+pub returns-then-not-is_done : goal.returns-then-not-is_done
 unfolding test_of
-returns-then-due-ne0 c =
+returns-then-not-is_done c =
     let a = c.args in
-    refused_tells (test_rules a.p a.f.now a.g.now a.q.now a.work.now) c.first-due.result (told (goal.at.returns-then-due-ne0 c).After-first-due)
+    refused_tells (test_rules a.p a.f.now a.g.now a.q.now a.work.now) c.first-due.result (told (goal.at.returns-then-not-is_done c).After-first-due)
     a.q.now [] a.work.now
     (tested a.p a.f.now a.g.now a.q.now a.work.now)
-    c.if-due-ne0.true
+    (refused_number c.first-due.result c.is_done.ensures c.if-not-is_done.true)
 
 pub test_good-requires : goal.test_good-requires
 test_good-requires c =
     let a = c.args in
-    let W = (rules_walkable a.p a.f.now a.g.now a.q.now a.work.now [] (told (goal.at.test_good-requires c).After-first-due) c.if-due-ne0.false).0 in
+    let W = (rules_walkable a.p a.f.now a.g.now a.q.now a.work.now [] (told (goal.at.test_good-requires c).After-first-due) (done_number c.first-due.result c.is_done.ensures c.if-not-is_done.false)).0 in
     let G = W.good in record {
       inputs = (G.prime, G.within, G.first, G.second, W.some, G.second_short);
       rooms = (W.room_short, W.long);
@@ -48,4 +49,4 @@ returns c =
     c.test_good.ensures
     ∙ passed_goes_on (test_rules a.p a.f.now a.g.now a.q.now a.work.now) c.first-due.result (told (goal.at.returns c).After-first-due) a.q.now [] a.work.now
     (tested a.p a.f.now a.g.now a.q.now a.work.now)
-    c.if-due-ne0.false
+    (done_number c.first-due.result c.is_done.ensures c.if-not-is_done.false)
