@@ -39,6 +39,7 @@ pub fn merge(p: u64, a: &[u64], b: &[u64], minus: bool, room: &mut [u64]) -> usi
 {
     let terms = a.len() / 2 + b.len() / 2;
     let most = room.len() / 2;
+    // The places are counted, and no iterators: which input moves is found in each turn, and may be both.
     let mut i: usize = 0;
     let mut j: usize = 0;
     let mut n: usize = 0;

@@ -3,7 +3,7 @@
 --   profiled                 the profile beside a report
 --   zero_profile             what `Profile::default` answers
 --   done_or_else             of two reports the first that refuses is none just where neither refuses
---   ordered                  the four tests of 2 to 5
+--   all_done, ordered        the four tests of 2 to 5, and that they tell whether a slice is in order
 --   found_first              what a search of a range found is the first number that passes
 --   within_or, some_within, none_within  a number as one of n
 --   empty_part, part         the empty part at the front, and the part from one term up to another
@@ -57,16 +57,18 @@ and_right true true false d = refl
 and_right true false c d = refl
 and_right false b c d = refl
 
--- what is due of a slice, where none of 2 to 5 is
-pub ordered : (s : List ℕ) (d : Due) → d ≡ with_input 0 no_due (as_input s) →
-    (((eqb d.odd.number 0 && eqb d.long.number 0) && eqb d.guard.number 0) && eqb d.order.number 0) ≡ in_order s
+-- none of 2 to 5 is due
+abbrev pub all_done : Due → Bool
+all_done d = ((eqb d.odd.number 0 && eqb d.long.number 0) && eqb d.guard.number 0) && eqb d.order.number 0
+
+pub ordered : (s : List ℕ) (d : Due) → d ≡ with_input 0 no_due (as_input s) → all_done d ≡ in_order s
 unfolding in_order
 ordered s d e =
     let odd = odd_rule 1 s in
     let long = long_rule input_terms 1 s in
     let guard = guard_rule base 1 s in
     let order = order_rule 1 s in
-    ap (λ (x : Due). ((eqb x.odd.number 0 && eqb x.long.number 0) && eqb x.guard.number 0) && eqb x.order.number 0) e
+    ap all_done e
     ∙ and_right (eqb odd.number 0) (eqb long.number 0) (eqb guard.number 0) (eqb order.number 0)
     ∙ sym (done_or_else odd (or_else long (or_else guard (or_else order none)))
     ∙ ap (λ b. eqb odd.number 0 && b) (done_or_else long (or_else guard (or_else order none))
