@@ -25,7 +25,7 @@ pub fn product(p: u64, a: &[u64], b: &[u64], room: &mut [u64], work: &mut [u64])
     let least = 4 * (a.len() / 2).min(b.len() / 2);
     let last = or_else(work_rule(least, work), done(0, 0));
     let due = two_inputs(p, a, b).room(3, ROOM_TERMS, room).first(p, last);
-    if due.number != 0 {
+    if !due.is_done() {
         return due;
     }
     if a.len() <= b.len() {
