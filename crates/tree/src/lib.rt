@@ -14,7 +14,8 @@ use poly::room::put_term;
 // What one row counts in a tag: the columns lie below. A row and a column share a word, since the lent work has four words a row.
 const ROW: u64 = 0x100000000;
 
-// A record of the tree.
+// A record of the tree. Where nothing waits its key is 0 and no Option: everything merges by keys (docs/DECISIONS.md), and work that is
+// zero is an empty tree.
 #[derive(Clone, Copy)]
 pub struct Node {
     pub key: u64,

@@ -9,6 +9,7 @@ use Rattle.poly.specs.Words.{records}
 use Rattle.refusals.proofs.Reports.{done_number, refused_number}
 use Rattle.refusals.specs.Reports.{none, or_else, first_or}
 use Rattle.refusals.specs.Rules.{lent, room_terms, work_rule}
+use Rattle.refusals.proofs.Reports.{done_number, refused_number}
 use Rattle.dues.specs.Dues.{with_room}
 use Rattle.dues.specs.declared.Due.{Due}
 use Rattle.calls.specs.Inputs.{two_inputs}
