@@ -27,18 +27,18 @@ use Rattle.poly.proofs.Readings.{weight_within}
 use Rattle.poly.specs.Profiles.{maxima}
 use Rattle.judges.specs.Judges.{unless_full}
 use Rattle.judges.specs.Plans.{is_test, judges_by, judges_of, quotient_reply, remainder_reply, Ready}
-use Rattle.judges.specs.declared.Plan.{Plan}
+use Rattle.judges.specs.declared.Judge.{Judge}
 use Rattle.poly.proofs.Maxima.{maxima-fits, under_maxima-fits}
 
 -- what a plan has to be for a walk, the inputs being good
-pub prepared : (p : ℕ) (f g : List ℕ) (plan : Plan) →
+pub prepared : (p : ℕ) (f g : List ℕ) (inv : ℕ) (judge : Judge) →
     (Prime p × (p ≤ limit) × (0 < records g) × (records g < 2 ^ 32)) →
     Valid p f × Valid p g →
-    plan.inverse ≡ inverse p (coef_at g 0) →
-    plan.maxima ≡ write base (maxima (poly_of base g)) →
-    ForSome plan.bounds (λ b. b ≡ write base (maxima (poly_of base f))) →
-    Ready p f g plan
-prepared p f g plan s valid inverted largest bounds =
+    inv ≡ inverse p (coef_at g 0) →
+    judge.maxima ≡ write base (maxima (poly_of base g)) →
+    ForSome judge.bounds (λ b. b ≡ write base (maxima (poly_of base f))) →
+    Ready p f g inv judge
+prepared p f g inv judge s valid inverted largest bounds =
     record {
       prime = s.0;
       positive = omega (arith, s.0.two);
@@ -101,27 +101,27 @@ pub remainder-room : (b : Bool) (room j : ℕ) → remainder_reply b room j ≡ 
 remainder-room true room j e = absurd (omega arith)
 remainder-room false room j e = full_zero j room 11 (omega arith) e
 
-module _ (p : ℕ) (f g : List ℕ) (plan : Plan) (R : Ready p f g plan) where
-  pub divisor_monomial : is_monomial base plan.maxima ≡ true
+module _ {p : ℕ} {f g : List ℕ} {inv : ℕ} {judge : Judge} (R : Ready p f g inv judge) where
+  pub divisor_monomial : is_monomial base judge.maxima ≡ true
   divisor_monomial = ap (is_monomial base) R.maxima_word ∙ word_monomial base (maxima (poly_of base g)) R.maxima_fit
 
   module _ (word : ℕ) (h : is_monomial base word ≡ true) (i c : ℕ) where
     -- what the judge says of this word
     abbrev pub judged : ℕ
-    judged = quotient_reply plan.maxima plan.bounds plan.quotients word i
+    judged = quotient_reply judge.maxima judge.bounds judge.quotients word i
 
-    pub reply-word : (judges_of f g plan).on_quotient i (term (read base word) c) ≡ judged
+    pub reply-word : (judges_of f g judge).on_quotient i (term (read base word) c) ≡ judged
     reply-word =
-        by_word (poly_of base f) (poly_of base g) plan.quotients plan.remainders plan.bounds word i c
-        plan.maxima h R.maxima_fit R.bounds_fit R.maxima_word R.bounds_word
+        by_word (poly_of base f) (poly_of base g) judge.quotients judge.remainders judge.bounds word i c
+        judge.maxima h R.maxima_fit R.bounds_fit R.maxima_word R.bounds_word
 
     module _ (e : judged ≡ 0) where
-      passes : (fit base ((Letters 4).mul (read base word) (maxima (poly_of base g))) ≡ true) × (i < plan.quotients)
+      passes : (fit base ((Letters 4).mul (read base word) (maxima (poly_of base g))) ≡ true) × (i < judge.quotients)
       passes =
-          by_passes (poly_of base f) (poly_of base g) plan.quotients plan.remainders (is_test plan) (read base word) i c
+          by_passes (poly_of base f) (poly_of base g) judge.quotients judge.remainders (is_test judge) (read base word) i c
           R.bounds_fit (reply-word ∙ e)
 
-      pub passes_room : i < plan.quotients
+      pub passes_room : i < judge.quotients
       passes_room = passes.1
 
       pub passes_fits : (x : ℕ) → x < records g → is_monomial base (word + word_at g x) ≡ true

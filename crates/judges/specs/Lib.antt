@@ -2,3 +2,4 @@
 pub mod Judges
 pub mod Stops
 pub mod Plans
+pub mod Once

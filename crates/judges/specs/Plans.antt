@@ -1,6 +1,6 @@
 -- What a walk computes once, and its judges on words: what the engine's own functions promise one another.
 --
---   is_test                whether a plan is of the divide test
+--   is_test                whether a judge is the divide test's
 --   judges_by, judges_of   the stops of a call: division's, or the divide test's
 --   quotient_reply         what the judge of quotient terms says of a word
 --   remainder_reply        what the judge of remainder terms says
@@ -17,17 +17,17 @@ use Rattle.poly.specs.Words.{records, coef_at, poly_of}
 use Rattle.poly.specs.Valid.{Valid}
 use Rattle.poly.specs.Profiles.{maxima}
 use Rattle.judges.specs.Judges.{unless_full, division_judges, test_judges}
-use Rattle.judges.specs.declared.Plan.{Plan}
+use Rattle.judges.specs.declared.Judge.{Judge}
 
-abbrev pub is_test : Plan → Bool
-is_test plan = is_some plan.bounds
+abbrev pub is_test : Judge → Bool
+is_test judge = is_some judge.bounds
 
 abbrev pub judges_by : Bool → Poly (Letters 4) → Poly (Letters 4) → ℕ → ℕ → Judges (Letters 4)
 judges_by true f g q r = test_judges f g q
 judges_by false f g q r = division_judges g q r
 
-abbrev pub judges_of : List ℕ → List ℕ → Plan → Judges (Letters 4)
-judges_of f g plan = judges_by (is_test plan) (poly_of base f) (poly_of base g) plan.quotients plan.remainders
+abbrev pub judges_of : List ℕ → List ℕ → Judge → Judges (Letters 4)
+judges_of f g judge = judges_by (is_test judge) (poly_of base f) (poly_of base g) judge.quotients judge.remainders
 
 -- by the words of the maxima of the divisor, and of the dividend in the divide test
 abbrev pub quotient_reply : ℕ → Option ℕ → ℕ → ℕ → ℕ → ℕ
@@ -38,7 +38,7 @@ abbrev pub remainder_reply : Bool → ℕ → ℕ → ℕ
 remainder_reply true room j = 12
 remainder_reply false room j = unless_full j room 11
 
-pub record Ready (p : ℕ) (f g : List ℕ) (plan : Plan) : Type 0 where
+pub record Ready (p : ℕ) (f g : List ℕ) (inv : ℕ) (judge : Judge) : Type 0 where
   pub prime : Prime p
   pub positive : 0 < p
   pub within : p ≤ limit
@@ -46,8 +46,8 @@ pub record Ready (p : ℕ) (f g : List ℕ) (plan : Plan) : Type 0 where
   pub divisor : Valid p g
   pub some : 0 < records g
   pub few : records g < 2 ^ 32
-  pub inverted : plan.inverse ≡ inverse p (coef_at g 0)
-  pub maxima_word : plan.maxima ≡ word_of 16 4 (maxima (poly_of base g))
+  pub inverted : inv ≡ inverse p (coef_at g 0)
+  pub maxima_word : judge.maxima ≡ word_of 16 4 (maxima (poly_of base g))
   pub maxima_fit : fits 16 4 (maxima (poly_of base g)) ≡ true
-  pub bounds_word : ForSome plan.bounds (λ b. b ≡ word_of 16 4 (maxima (poly_of base f)))
+  pub bounds_word : ForSome judge.bounds (λ b. b ≡ word_of 16 4 (maxima (poly_of base f)))
   pub bounds_fit : fits 16 4 (maxima (poly_of base f)) ≡ true

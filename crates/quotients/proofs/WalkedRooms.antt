@@ -1,8 +1,9 @@
 -- A walk in the rooms of a call, from the cleared quotient room to what the call leaves.
 --
 --   rooms_left       the rooms left by the walk's end, and the report that tells it, are what the call leaves
+--   planned          the plan of a call walks as the call does
 --   tested_alone     what the divide test leaves with an empty remainder room is what it leaves without one
-use Prim.Native.Nat.{ℕ, ◌-◌, ◌/◌, ◌≤◌}
+use Prim.Native.Nat.{ℕ, ◌-◌, ◌≤◌}
 use mathlib.Core.Path.{◌≡◌, refl, sym, ◌∙◌, ap}
 use mathlib.Core.Bool.{Bool, true, false}
 use mathlib.Core.List.{List, [], ◌∷◌, ◌++◌, append-nil}
@@ -30,13 +31,13 @@ use Rattle.calls.specs.Outcomes.{Outcome, outcome, told, holding, ended}
 use Rattle.calls.specs.Endings.{left, told_of}
 use Rattle.calls.proofs.Rooms.{Written, written_count, kept-holds, holding-none}
 use Rattle.calls.proofs.Told.{left_stopped, told-reason}
-use Rattle.judges.specs.Plans.{is_test, judges_by, Ready}
+use Rattle.judges.specs.Plans.{is_test, judges_by}
 use Rattle.judges.specs.Judges.{walk_by}
 use Rattle.judges.specs.declared.Plan.{Plan}
 use Rattle.steps.specs.Walking.{whole}
 use Rattle.steps.specs.declared.State.{State}
 use Rattle.walk.specs.Running.{Wrote, Ran}
-use Rattle.quotients.specs.Quotients.{walk_of, walked, test_walk, tested}
+use Rattle.quotients.specs.Quotients.{walked, test_walk, tested}
 
 -- records that are monomial words hold the polynomial that they are
 read_written : {f : Poly (Letters 4)} (s : List ℕ) (n : ℕ) → n ≤ records s → Monomial (span s 0 n) → decoded_poly base (span s 0 n) ≡ f → Written f s n
@@ -64,44 +65,33 @@ told_end (Ok t) f g e = λ d. told 0 (sym e.0 d) (sym e.1 d)
 told_end (Err reason) f g e = told-reason reason (length f) (length g)
 
 module _
-    {p : ℕ} {f g : List ℕ} {plan : Plan} (test : Bool) (q r w : List ℕ) {q₁ q₂ r₂ w₂ : List ℕ} {end : Result State Reason}
-    (clear : q₁ ≡ take 0 q ++ replicate (length q - 0) 0)
-    (known : Ready p f g plan × (is_test plan ≡ test) × (plan.quotients ≡ records q₁) × (plan.remainders ≡ records r))
-    (N : Ran p f g plan q₁ r w q₂ r₂ w₂ end)
+    {plan : Plan} (q r w : List ℕ) {q₁ q₂ r₂ w₂ : List ℕ} {end : Result State Reason} (clear : q₁ ≡ take 0 q ++ replicate (length q - 0) 0)
+    (N : Ran plan q₁ r w q₂ r₂ w₂ end)
   where
     cleared-long : length q₁ ≡ length q
     cleared-long = ap length (all_cleared q q q₁ refl clear) ∙ length-replicate (length q) 0
 
     abbrev on : Walked (Letters 4)
-    on = walk_of test p f g q r
+    on = whole plan
 
-    room : plan.quotients ≡ records q
-    room = known.2 ∙ ap (λ (x : ℕ). x / 2) cleared-long
-
-    same_walk : whole p f g plan ≡ on
-    same_walk d = walk_by p (judges_by (known.1 d) (poly_of base f) (poly_of base g) (room d) (known.3 d)) (poly_of base f) (poly_of base g)
-
-    replies : reply_of end ≡ on.reply
-    replies = sym N.replies ∙ ap (λ (x : Walked (Letters 4)). x.reply) same_walk
-
-    quotient_written : (t : State) → Wrote p f g plan q₂ r₂ t → Written on.quotient q₂ t.quotient
+    quotient_written : (t : State) → Wrote plan q₂ r₂ t → Written on.quotient q₂ t.quotient
     quotient_written t W =
         read_written q₂ t.quotient W.quotient_within W.quotient_monomials
-        (sym (append-nil (decoded_poly base (span q₂ 0 t.quotient))) ∙ ap (λ (x : Walked (Letters 4)). x.quotient) (sym W.ends ∙ same_walk))
+        (sym (append-nil (decoded_poly base (span q₂ 0 t.quotient))) ∙ ap (λ (x : Walked (Letters 4)). x.quotient) (sym W.ends))
 
-    remainder_written : (t : State) → Wrote p f g plan q₂ r₂ t → Written on.remainder r₂ t.remainder
+    remainder_written : (t : State) → Wrote plan q₂ r₂ t → Written on.remainder r₂ t.remainder
     remainder_written t W =
         read_written r₂ t.remainder W.remainder_within W.remainder_monomials
-        (sym (append-nil (decoded_poly base (span r₂ 0 t.remainder))) ∙ ap (λ (x : Walked (Letters 4)). x.remainder) (sym W.ends ∙ same_walk))
+        (sym (append-nil (decoded_poly base (span r₂ 0 t.remainder))) ∙ ap (λ (x : Walked (Letters 4)). x.remainder) (sym W.ends))
 
-    by_end : (P : State → Type 0) → ((t : State) → Wrote p f g plan q₂ r₂ t → P t) → IfOk end P
-    by_end P h = IfOk-weaker end (λ t. Wrote p f g plan q₂ r₂ t) P h N.wrote
+    by_end : (P : State → Type 0) → ((t : State) → Wrote plan q₂ r₂ t → P t) → IfOk end P
+    by_end P h = IfOk-weaker end (λ t. Wrote plan q₂ r₂ t) P h N.wrote
 
     pub rooms_left : (m n : Option ℕ) (e : Result (ℕ × ℕ) Reason) {t : Report} {q₃ r₃ w₃ : List ℕ} →
         w₃ ≡ take 0 w₂ ++ replicate (length w₂ - 0) 0 →
         q₃ ≡ left m q₂ → r₃ ≡ left n r₂ → t ≡ told_of e →
         m ≡ option_map (λ (s : State). s.quotient) (result_ok end) → n ≡ option_map (λ (s : State). s.remainder) (result_ok end) → e ≡ counts end →
-        outcome t q₃ r₃ w₃ ≡ walked test p f g q r w
+        outcome t q₃ r₃ w₃ ≡ walked plan q r w
     rooms_left m n e work quotient remainder report em en ee =
         let first =
         left_holds end (λ t. t.quotient) on.quotient q q₂ (N.quotient_long ∙ cleared-long)
@@ -121,7 +111,7 @@ module _
         ((quotient ∙ ap (λ (x : Option ℕ). left x q₂) em ∙ first) d)
         ((remainder ∙ ap (λ (x : Option ℕ). left x r₂) en ∙ second) d)
         (all_cleared w w₂ _ N.work_long work d))
-        ∙ ap (λ (x : ℕ). ended x on.quotient on.remainder q r w) replies
+        ∙ ap (λ (x : ℕ). ended x on.quotient on.remainder q r w) (sym N.replies)
 
 -- an empty room holds no terms, so that none are told
 none_told : (b : Bool) (reply n : ℕ) (f : Poly (Letters 4)) → length (pick b (filled 0 (words_of base f)) (cleared [])) ≡ 0 →
@@ -131,7 +121,8 @@ none_told true reply n (t ∷ f) e = absurd (omega arith)
 none_told false reply n f e = refl
 
 pub tested_alone : (p : ℕ) (f g q work : List ℕ) {t : Report} {q' r' w' : List ℕ} →
-    outcome t q' r' w' ≡ walked true p f g q [] work → length r' ≡ 0 → outcome t q' [] w' ≡ tested p f g q work
+    (let w = test_walk p f g q in outcome t q' r' w' ≡ ended w.reply w.quotient w.remainder q [] work) → length r' ≡ 0 →
+    outcome t q' [] w' ≡ tested p f g q work
 tested_alone p f g q work e none =
     let w = test_walk p f g q in
     let empty : length (holding w.reply w.remainder []) ≡ 0 = ap (λ (x : Outcome). length x.second) (sym e) ∙ none in
@@ -140,3 +131,17 @@ tested_alone p f g q work e none =
     ((e d).first)
     (sym (holding-none w.reply) d)
     ((e d).work)
+
+-- the plan of a call walks as the call does
+pub planned : (plan : Plan) (q r work : List ℕ) {o : Outcome} {p m n : ℕ} {f g : List ℕ} {test : Bool} → o ≡ walked plan q r work →
+    (plan.p ≡ p) × (plan.f.now ≡ f) × (plan.g.now ≡ g) →
+    (is_test plan.judge ≡ test) × (plan.judge.quotients ≡ m) × (plan.judge.remainders ≡ n) →
+    let w = walk_by p (judges_by test (poly_of base f) (poly_of base g) m n) (poly_of base f) (poly_of base g) in
+    o ≡ ended w.reply w.quotient w.remainder q r work
+planned plan q r work e i j =
+    e
+    ∙ (λ d.
+    let f = poly_of base (i.1 d) in
+    let g = poly_of base (i.2 d) in
+    let w = walk_by (i.0 d) (judges_by (j.0 d) f g (j.1 d) (j.2 d)) f g in
+    ended w.reply w.quotient w.remainder q r work)

@@ -9,6 +9,7 @@ ghost use Rattle.poly.specs.Words.{records};
 ghost use Rattle.refusals.specs.Rules.{input_terms};
 
 use crate::walk_in_rooms;
+use judges::prepare;
 use refusals::report::Report;
 
 // The division where none of 1 to 8 is due.
@@ -25,5 +26,6 @@ pub fn divide_good(
     ensures { outcome result q.new r.new work.new
         ≡ divided p f.now g.now q.old r.old work.old }
 {
-    walk_in_rooms(p, f, g, false, q, r, work)
+    let plan = prepare(p, f, g, false, q.len() / 2, r.len() / 2);
+    walk_in_rooms(&plan, q, r, work)
 }

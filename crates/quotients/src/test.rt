@@ -9,6 +9,7 @@ ghost use Rattle.poly.specs.Words.{records};
 ghost use Rattle.refusals.specs.Rules.{input_terms};
 
 use crate::walk_in_rooms;
+use judges::prepare;
 use refusals::report::Report;
 
 // The divide test where none of 1 to 8 is due. No remainder term is ever written.
@@ -18,5 +19,6 @@ pub fn test_good(p: u64, f: &[u64], g: &[u64], q: &mut [u64], work: &mut [u64]) 
     ensures { outcome result q.new [] work.new
         ≡ tested p f.now g.now q.old work.old }
 {
-    walk_in_rooms(p, f, g, true, q, &mut [], work)
+    let plan = prepare(p, f, g, true, q.len() / 2, 0);
+    walk_in_rooms(&plan, q, &mut [], work)
 }

@@ -60,33 +60,41 @@ unfolding inverse
 inverse_within p a = first_within (λ x. eqb (a * x % p) 1) 1 (p - 1)
 
 -- a walk at a head: the greatest monomial, of key k, was taken out of what remains
-pub record AtHead (p : ℕ) (f g : List ℕ) (plan : Plan) (q r w : List ℕ) (i n j k : ℕ) (w' : List ℕ) (i' c : ℕ) : Type 0 where
-  pub ready : Ready p f g plan
-  pub walking : Walking p f g plan q r w i n j
+pub record AtHead (plan : Plan) (q r w : List ℕ) (i n j k : ℕ) (w' : List ℕ) (i' c : ℕ) : Type 0 where
+  pub walking : Walking plan q r w i n j
   pub some : 0 < k
-  pub top : k ≡ max (key_at f i) (word_at w 1)
-  pub free : n < plan.quotients → n < records q
-  pub headed : Headed p f g q w i k w' i' c
+  pub top : k ≡ max (key_at plan.f.now i) (word_at w 1)
+  pub free : n < plan.judge.quotients → n < records q
+  pub headed : Headed plan.p plan.f.now plan.g.now q w i k w' i' c
 
 -- from what a step asks, and the head that was taken
-pub at_head : {p : ℕ} {f g : List ℕ} {plan : Plan} {q r w : List ℕ} {i n j k : ℕ} {w' : List ℕ} {i' c : ℕ} →
-    ((0 < k) × (k ≡ max (key_at f i) (word_at w 1)) × (n < plan.quotients → n < records q)) × (Ready p f g plan × Walking p f g plan q r w i n j) →
-    Headed p f g q w i k w' i' c →
-    AtHead p f g plan q r w i n j k w' i' c
-at_head a h = record { ready = a.1.0; walking = a.1.1; some = a.0.0; top = a.0.1; free = a.0.2; headed = h }
+pub at_head : {plan : Plan} {q r w : List ℕ} {i n j k : ℕ} {w' : List ℕ} {i' c : ℕ} →
+    (0 < k) × (k ≡ max (key_at plan.f.now i) (word_at w 1)) × (n < plan.judge.quotients → n < records q) → Walking plan q r w i n j →
+    Headed plan.p plan.f.now plan.g.now q w i k w' i' c →
+    AtHead plan q r w i n j k w' i' c
+at_head a w h = record { walking = w; some = a.0; top = a.1; free = a.2; headed = h }
 
-module _ {p : ℕ} {f g : List ℕ} {plan : Plan} {q r w : List ℕ} {i n j k : ℕ} {w' : List ℕ} {i' c : ℕ} (S : AtHead p f g plan q r w i n j k w' i' c) where
-  abbrev R : Ready p f g plan
-  R = S.ready
+module _ {plan : Plan} {q r w : List ℕ} {i n j k : ℕ} {w' : List ℕ} {i' c : ℕ} (S : AtHead plan q r w i n j k w' i' c) where
+  abbrev p : ℕ
+  p = plan.p
 
-  abbrev W : Walking p f g plan q r w i n j
+  abbrev f : List ℕ
+  f = plan.f.now
+
+  abbrev g : List ℕ
+  g = plan.g.now
+
+  abbrev R : Ready p f g plan.inverse plan.judge
+  R = plan.ready
+
+  abbrev W : Walking plan q r w i n j
   W = S.walking
 
   abbrev H : Headed p f g q w i k w' i' c
   H = S.headed
 
   abbrev judges : Judges (Letters 4)
-  judges = judges_of f g plan
+  judges = judges_of f g plan.judge
 
   abbrev before : Poly Numbers
   before = remaining p f g q w i
@@ -121,8 +129,8 @@ module _ {p : ℕ} {f g : List ℕ} {plan : Plan} {q r w : List ℕ} {i n j k : 
   abbrev remainders : Poly (Letters 4)
   remainders = decoded_poly base (span r 0 j)
 
-  onward : whole p f g plan ≡ joined quotients remainders (walk_on p f g plan (suc less) n j (taken ∷ seen p after))
-  onward = W.walked ∙ (λ d. joined quotients remainders (walk_on p f g plan (fuel_more d) n j (list d)))
+  onward : whole plan ≡ joined quotients remainders (walk_on plan (suc less) n j (taken ∷ seen p after))
+  onward = W.walked ∙ (λ d. joined quotients remainders (walk_on plan (fuel_more d) n j (list d)))
 
   abbrev lead : Term (Letters 4)
   lead = term_at base g 0
@@ -130,7 +138,7 @@ module _ {p : ℕ} {f g : List ℕ} {plan : Plan} {q r w : List ℕ} {i n j k : 
   abbrev later : Poly (Letters 4)
   later = terms base g 1 (records g - 1)
 
-  pub step_skips : c ≡ 0 → Stepped p f g plan q r w k q r w' (Ok (state i' n j))
+  pub step_skips : c ≡ 0 → Stepped plan q r w k q r w' (Ok (state i' n j))
   step_skips z =
       record {
         quotient_long = refl;
@@ -193,22 +201,22 @@ module _ {p : ℕ} {f g : List ℕ} {plan : Plan} {q r w : List ℕ} {i n j k : 
 
       -- what the judge says of the quotient's word
       abbrev pub says : ℕ
-      says = quotient_reply plan.maxima plan.bounds plan.quotients word n
+      says = quotient_reply plan.judge.maxima plan.judge.bounds plan.judge.quotients word n
 
       judged :
-          whole p f g plan ≡
+          whole plan ≡
           joined quotients remainders
           (to_quotient (judges.on_quotient n divided) divided (taken ∷ seen p after)
-          (walk_on p f g plan less (suc n) j (remains (Lex 4) p later divided (seen p after))))
+          (walk_on plan less (suc n) j (remains (Lex 4) p later divided (seen p after))))
       judged =
           onward
           ∙ ap (joined quotients remainders)
           (walk-quotient (Lex 4) p lead later judges less n j taken (seen p after) positive (read base word) exponents)
 
       reply_is : judges.on_quotient n divided ≡ says
-      reply_is = reply-word p f g plan R word quotient-word.0 n coef
+      reply_is = reply-word R word quotient-word.0 n coef
 
-      pub step_stops_quotient : (reason : Reason) → number_of reason ≡ says → Stepped p f g plan q r w k q r w' (Err reason)
+      pub step_stops_quotient : (reason : Reason) → number_of reason ≡ says → Stepped plan q r w k q r w' (Err reason)
       step_stops_quotient reason e =
           record {
             quotient_long = refl;
@@ -225,7 +233,7 @@ module _ {p : ℕ} {f g : List ℕ} {plan : Plan} {q r w : List ℕ} {i n j k : 
 
       module _ (e : says ≡ 0) where
         room : n < records q
-        room = S.free (passes_room p f g plan R word quotient-word.0 n coef e)
+        room = S.free (passes_room R word quotient-word.0 n coef e)
 
         pub row_asked :
             ((n < records q) × (records q < 2 ^ 32) × (0 < records g) × (records g < 2 ^ 32) ×
@@ -264,7 +272,7 @@ module _ {p : ℕ} {f g : List ℕ} {plan : Plan} {q r w : List ℕ} {i n j k : 
 
         products : (y m : ℕ) → y + m ≤ records g → Monomial (times (term word coef) (span g y m))
         products y zero h = tt
-        products y (suc m) h = (passes_fits p f g plan R word quotient-word.0 n coef e y (omega arith), products (suc y) m (omega arith))
+        products y (suc m) h = (passes_fits R word quotient-word.0 n coef e y (omega arith), products (suc y) m (omega arith))
 
         abbrev next : Poly Numbers
         next = remaining p f g q' w'' i'
@@ -331,7 +339,7 @@ module _ {p : ℕ} {f g : List ℕ} {plan : Plan} {q r w : List ℕ} {i n j k : 
         now_written : quotients ++ (divided ∷ []) ≡ decoded_poly base (span q' 0 (n + 1))
         now_written = sym (decoded_append base (span q 0 n) (term word coef ∷ [])) ∙ ap (decoded_poly base) (sym stored)
 
-        pub step-divides : Stepped p f g plan q r w k q' r w'' (Ok (state i' (n + 1) j))
+        pub step-divides : Stepped plan q r w k q' r w'' (Ok (state i' (n + 1) j))
         step-divides =
             record {
               quotient_long = long;
@@ -361,7 +369,7 @@ module _ {p : ℕ} {f g : List ℕ} {plan : Plan} {q r w : List ℕ} {i n j k : 
                     walked =
                         judged
                         ∙ joined-quotient quotients remainders divided (taken ∷ seen p after) _ (judges.on_quotient n divided) (reply_is ∙ e)
-                        ∙ (λ d. joined (now_written d) remainders (walk_on p f g plan less (sym (add-one n) d) j (next-seen d)));
+                        ∙ (λ d. joined (now_written d) remainders (walk_on plan less (sym (add-one n) d) j (next-seen d)));
                   };
               lower = next_lower;
             }
@@ -380,18 +388,18 @@ module _ {p : ℕ} {f g : List ℕ} {plan : Plan} {q r w : List ℕ} {i n j k : 
 
       -- what the judge says of the remainder term
       abbrev pub says_remainder : ℕ
-      says_remainder = remainder_reply (is_test plan) plan.remainders j
+      says_remainder = remainder_reply (is_test plan.judge) plan.judge.remainders j
 
       kept :
-          whole p f g plan ≡
+          whole plan ≡
           joined quotients remainders
-          (to_remainder (judges.on_remainder j taken) taken (taken ∷ seen p after) (walk_on p f g plan less n (suc j) (seen p after)))
+          (to_remainder (judges.on_remainder j taken) taken (taken ∷ seen p after) (walk_on plan less n (suc j) (seen p after)))
       kept = onward ∙ ap (joined quotients remainders) (walk-remainder (Lex 4) p lead later judges less n j taken (seen p after) positive none)
 
       remainder_is : judges.on_remainder j taken ≡ says_remainder
-      remainder_is = remainder_reply_lem (poly_of base f) (poly_of base g) plan.quotients plan.remainders (is_test plan) j taken
+      remainder_is = remainder_reply_lem (poly_of base f) (poly_of base g) plan.judge.quotients plan.judge.remainders (is_test plan.judge) j taken
 
-      pub step_stops_remainder : (reason : Reason) → number_of reason ≡ says_remainder → Stepped p f g plan q r w k q r w' (Err reason)
+      pub step_stops_remainder : (reason : Reason) → number_of reason ≡ says_remainder → Stepped plan q r w k q r w' (Err reason)
       step_stops_remainder reason e =
           record {
             quotient_long = refl;
@@ -407,7 +415,7 @@ module _ {p : ℕ} {f g : List ℕ} {plan : Plan} {q r w : List ℕ} {i n j k : 
           }
 
       remainder_asked : says_remainder ≡ 0 → j < records r
-      remainder_asked e = omega (arith, remainder-room (is_test plan) plan.remainders j e, W.remainders)
+      remainder_asked e = omega (arith, remainder-room (is_test plan.judge) plan.judge.remainders j e, W.remainders)
 
       module _ (e : says_remainder ≡ 0) {r' : List ℕ} (written : r' ≡ put r j (k - 1) c) where
         r-long : length r' ≡ length r
@@ -419,7 +427,7 @@ module _ {p : ℕ} {f g : List ℕ} {plan : Plan} {q r w : List ℕ} {i n j k : 
         r_now : remainders ++ (taken ∷ []) ≡ decoded_poly base (span r' 0 (j + 1))
         r_now = sym (decoded_append base (span r 0 j) (term (k - 1) c ∷ [])) ∙ ap (decoded_poly base) (sym r_stored)
 
-        pub step_moves : Stepped p f g plan q r w k q r' w' (Ok (state i' n (j + 1)))
+        pub step_moves : Stepped plan q r w k q r' w' (Ok (state i' n (j + 1)))
         step_moves =
             record {
               quotient_long = refl;
@@ -446,7 +454,7 @@ module _ {p : ℕ} {f g : List ℕ} {plan : Plan} {q r w : List ℕ} {i n j k : 
                     walked =
                         kept
                         ∙ joined-remainder quotients remainders taken (taken ∷ seen p after) _ (judges.on_remainder j taken) (remainder_is ∙ e)
-                        ∙ (λ d. joined quotients (r_now d) (walk_on p f g plan less n (sym (add-one j) d) (seen p after)));
+                        ∙ (λ d. joined quotients (r_now d) (walk_on plan less n (sym (add-one j) d) (seen p after)));
                   };
               lower = H.lower;
             }

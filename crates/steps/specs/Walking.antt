@@ -26,29 +26,32 @@ abbrev pub seen : ℕ → Poly Numbers → Poly (Letters 4)
 seen p h = decoded_poly base (sorted Rising p h)
 
 -- all of the walk, and a walk on from what remains
-abbrev pub whole : ℕ → List ℕ → List ℕ → Plan → Walked (Letters 4)
-whole p f g plan = walk_by p (judges_of f g plan) (poly_of base f) (poly_of base g)
+abbrev pub whole : Plan → Walked (Letters 4)
+whole plan = walk_by plan.p (judges_of plan.f.now plan.g.now plan.judge) (poly_of base plan.f.now) (poly_of base plan.g.now)
 
-abbrev pub walk_on : ℕ → List ℕ → List ℕ → Plan → ℕ → ℕ → ℕ → Poly (Letters 4) → Walked (Letters 4)
-walk_on p f g plan n i j h = walk (Lex 4) p (term_at base g 0) (terms base g 1 (records g - 1)) (judges_of f g plan) n i j h
+abbrev pub walk_on : Plan → ℕ → ℕ → ℕ → Poly (Letters 4) → Walked (Letters 4)
+walk_on plan n i j h =
+    let g = plan.g.now in
+    walk (Lex 4) plan.p (term_at base g 0) (terms base g 1 (records g - 1)) (judges_of plan.f.now g plan.judge) n i j h
 
-pub record Walking (p : ℕ) (f g : List ℕ) (plan : Plan) (q r w : List ℕ) (i n j : ℕ) : Type 0 where
-  pub live : Live q g w
-  pub sides : Sides q g p
-  pub remainders : plan.remainders ≡ records r
-  pub within : i ≤ records f
+pub record Walking (plan : Plan) (q r w : List ℕ) (i n j : ℕ) : Type 0 where
+  pub live : Live q plan.g.now w
+  pub sides : Sides q plan.g.now plan.p
+  pub remainders : plan.judge.remainders ≡ records r
+  pub within : i ≤ records plan.f.now
   pub quotient_within : n ≤ records q
   pub remainder_within : j ≤ records r
   pub unwritten : (x : ℕ) → n ≤ x → x < records q → word_at w (records q + x) ≡ 0
   pub idle : records q ≡ 0 → word_at w 1 ≡ 0
-  pub monomials : Monomial (remaining p f g q w i)
+  pub monomials : Monomial (remaining plan.p plan.f.now plan.g.now q w i)
   pub quotient_monomials : Monomial (span q 0 n)
   pub remainder_monomials : Monomial (span r 0 j)
   pub fuel : ℕ
-  pub enough : max (key_at f i) (word_at w 1) ≤ fuel
+  pub enough : max (key_at plan.f.now i) (word_at w 1) ≤ fuel
   pub walked :
-      whole p f g plan ≡
-      joined (decoded_poly base (span q 0 n)) (decoded_poly base (span r 0 j)) (walk_on p f g plan fuel n j (seen p (remaining p f g q w i)))
+      whole plan ≡
+      joined (decoded_poly base (span q 0 n)) (decoded_poly base (span r 0 j))
+      (walk_on plan fuel n j (seen plan.p (remaining plan.p plan.f.now plan.g.now q w i)))
 
 -- record n of the quotient room is a word and a coef, and what waited before still does
 pub record RowPut (g q w : List ℕ) (n word coef k : ℕ) (q' w' : List ℕ) : Type 0 where
@@ -63,10 +66,10 @@ pub record RowPut (g q w : List ℕ) (n word coef k : ℕ) (q' w' : List ℕ) : 
   pub lower : word_at w' 1 < k
 
 -- the walk goes on, with no key as great as before, or its reply is the number of the reason
-pub record Stepped (p : ℕ) (f g : List ℕ) (plan : Plan) (q r w : List ℕ) (k : ℕ) (q' r' w' : List ℕ) (end : Result State Reason) : Type 0 where
+pub record Stepped (plan : Plan) (q r w : List ℕ) (k : ℕ) (q' r' w' : List ℕ) (end : Result State Reason) : Type 0 where
   pub quotient_long : length q' ≡ length q
   pub remainder_long : length r' ≡ length r
   pub work_long : length w' ≡ length w
-  pub stops : IfErr end (λ reason. (whole p f g plan).reply ≡ number_of reason)
-  pub goes_on : IfOk end (λ s. Walking p f g plan q' r' w' s.next s.quotient s.remainder)
-  pub lower : IfOk end (λ s. max (key_at f s.next) (word_at w' 1) < k)
+  pub stops : IfErr end (λ reason. (whole plan).reply ≡ number_of reason)
+  pub goes_on : IfOk end (λ s. Walking plan q' r' w' s.next s.quotient s.remainder)
+  pub lower : IfOk end (λ s. max (key_at plan.f.now s.next) (word_at w' 1) < k)

@@ -5,7 +5,6 @@ ghost use Rattle.std.specs.Prelude.{◌≡◌, ℕ, suc, ◌+◌, ◌<◌, ◌^�
 ghost use Rattle.poly.specs.Words.{records, word_at};
 ghost use Rattle.tree.specs.Tree.{Live};
 ghost use Rattle.poly.specs.Keys.{key_at};
-ghost use Rattle.judges.specs.Plans.{Ready};
 ghost use Rattle.steps.specs.Walking.{Walking, RowPut, Stepped};
 
 use heads::take_head;
@@ -25,22 +24,20 @@ pub struct State {
 
 // Handles the greatest monomial of what remains, whose key is k, unless a judge stops the walk there.
 pub fn step(
-    p: u64,
-    f: &[u64],
-    g: &[u64],
+    plan: &Plan<'_>,
     q: &mut [u64],
     r: &mut [u64],
     work: &mut [u64],
-    plan: Plan,
     s: State,
     k: u64,
 ) -> Result<State, Reason>
-    requires head { (0 < k) × (k ≡ max (key_at f.now s.next) (word_at work.old 1)) × (s.quotient < plan.quotients → s.quotient < records q.old) }
-    requires ready { Ready p f.now g.now plan }
-    requires walking { Walking p f.now g.now plan q.old r.old work.old s.next s.quotient s.remainder }
-    ensures { Stepped p f.now g.now plan q.old r.old work.old k q.new r.new work.new result }
+    requires head { (0 < k) × (k ≡ max (key_at plan.now.f.now s.next) (word_at work.old 1)) × (s.quotient < plan.now.judge.quotients → s.quotient < records q.old) }
+    requires walking { Walking plan.now q.old r.old work.old s.next s.quotient s.remainder }
+    ensures { Stepped plan.now q.old r.old work.old k q.new r.new work.new result }
 {
-    let h = take_head(p, f, g, q, work, s.next, k);
+    let p = plan.p;
+    let g = plan.g;
+    let h = take_head(p, plan.f, g, q, work, s.next, k);
     let on = State { next: h.next, ..s };
     if h.coef == 0 {
         return Ok(on);
@@ -48,22 +45,15 @@ pub fn step(
     let monomial = k - 1;
     if monomial::divides(g[0], monomial) {
         let word = monomial - g[0];
-        judge_quotient(plan, word, s.quotient)?;
-        put_row(
-            g,
-            q,
-            work,
-            s.quotient,
-            word,
-            mul_mod(p, h.coef, plan.inverse),
-            k,
-        );
+        judge_quotient(plan.judge, word, s.quotient)?;
+        let coef = mul_mod(p, h.coef, plan.inverse);
+        put_row(g, q, work, s.quotient, word, coef, k);
         return Ok(State {
             quotient: s.quotient + 1,
             ..on
         });
     }
-    judge_remainder(plan, s.remainder)?;
+    judge_remainder(plan.judge, s.remainder)?;
     put_term(r, s.remainder, monomial, h.coef);
     Ok(State {
         remainder: s.remainder + 1,

@@ -4,7 +4,6 @@
 --   rows_words                          the records of the front of a room
 --   Running                             the loop, before each step
 --   runs_first                          the first tree
---   rows_asked                          what growing asks
 --   Grew, grows_on                      the tree after it grew, where a quotient term may be written as far as the room goes
 --   runs_on, runs_ended                 after a step: the loop goes on, or ends; its work was as long as v
 use Prim.Native.Nat.{ℕ, zero, suc, ◌+◌, ◌-◌, ◌*◌, ◌/◌, ◌^◌, ◌<◌, ◌≤◌, max}
@@ -31,7 +30,7 @@ use Rattle.poly.specs.Keys.{key_at}
 use Rattle.heads.specs.Remaining.{remaining}
 use Rattle.steps.specs.Walking.{seen, whole, walk_on, Walking, Stepped}
 use Rattle.walk.specs.Running.{Fresh, Enough, Ran}
-use Rattle.judges.specs.Plans.{judges_of, Ready}
+use Rattle.judges.specs.Plans.{judges_of}
 use Rattle.judges.specs.declared.Plan.{Plan}
 use Rattle.steps.specs.declared.State.{State}
 use Rattle.steps.proofs.Onward.{state}
@@ -54,32 +53,41 @@ module _ (q : List ℕ) (n : ℕ) (h : n ≤ records q) where
       λ d. term {K = Numbers} (e.0 d) (e.1 d) ∷ span-rows (suc i) m (omega arith) d
 
 -- the loop, before each step
-pub record Running (p : ℕ) (f g : List ℕ) (plan : Plan) (q₀ r₀ w₀ q r w : List ℕ) (rows : ℕ) (s : State) (k : ℕ) : Type 0 where
+pub record Running (plan : Plan) (q₀ r₀ w₀ q r w : List ℕ) (rows : ℕ) (s : State) (k : ℕ) : Type 0 where
   pub quotient_long : length q ≡ length q₀
   pub remainder_long : length r ≡ length r₀
   pub work_long : length w ≡ length w₀
-  pub top : k ≡ max (key_at f s.next) (word_at w 1)
-  pub room : plan.quotients ≡ records q
+  pub top : k ≡ max (key_at plan.f.now s.next) (word_at w 1)
+  pub room : plan.judge.quotients ≡ records q
   pub long : 4 * records q ≤ length w
   pub few : records q < 2 ^ 32
   pub within : rows ≤ records q
   pub some : 0 < records q → 0 < rows
-  pub small : (x : ℕ) → x < records q → (word_at q x < 2 ^ 63) × (coef_at q x < p)
-  pub walking : Walking p f g plan (take (2 * rows) q) r w s.next s.quotient s.remainder
+  pub small : (x : ℕ) → x < records q → (word_at q x < 2 ^ 63) × (coef_at q x < plan.p)
+  pub walking : Walking plan (take (2 * rows) q) r w s.next s.quotient s.remainder
 
 -- the tree after it grew
-pub record Grew (p : ℕ) (f g : List ℕ) (plan : Plan) (q r w w' : List ℕ) (m : ℕ) (s : State) (k : ℕ) : Type 0 where
+pub record Grew (plan : Plan) (q r w w' : List ℕ) (m : ℕ) (s : State) (k : ℕ) : Type 0 where
   pub as_long : length w' ≡ length w
   pub within : m ≤ records q
-  pub top : k ≡ max (key_at f s.next) (word_at w' 1)
-  pub free : s.quotient < plan.quotients → s.quotient < records (take (2 * m) q)
-  pub walking : Walking p f g plan (take (2 * m) q) r w' s.next s.quotient s.remainder
+  pub top : k ≡ max (key_at plan.f.now s.next) (word_at w' 1)
+  pub free : s.quotient < plan.judge.quotients → s.quotient < records (take (2 * m) q)
+  pub walking : Walking plan (take (2 * m) q) r w' s.next s.quotient s.remainder
 
 module _
-    {p : ℕ} {f g : List ℕ} {plan : Plan} (q : List ℕ) {r w w' : List ℕ} {n m i a b : ℕ} (hn : n ≤ records q) (hm : m ≤ records q) (more : n ≤ m) (some : 0 < n)
-    (long : 4 * records q ≤ length w) (small : (x : ℕ) → x < records q → (word_at q x < 2 ^ 63) × (coef_at q x < p)) (few : records q < 2 ^ 32)
-    (W : Walking p f g plan (take (2 * n) q) r w i a b) (G : Grown n m w w')
+    {plan : Plan} (q : List ℕ) {r w w' : List ℕ} {n m i a b : ℕ} (hn : n ≤ records q) (hm : m ≤ records q) (more : n ≤ m) (some : 0 < n)
+    (long : 4 * records q ≤ length w) (small : (x : ℕ) → x < records q → (word_at q x < 2 ^ 63) × (coef_at q x < plan.p)) (few : records q < 2 ^ 32)
+    (W : Walking plan (take (2 * n) q) r w i a b) (G : Grown n m w w')
   where
+    abbrev p : ℕ
+    p = plan.p
+
+    abbrev f : List ℕ
+    f = plan.f.now
+
+    abbrev g : List ℕ
+    g = plan.g.now
+
     abbrev old : List ℕ
     old = take (2 * n) q
 
@@ -117,7 +125,7 @@ module _
     same_span =
         span-rows q m hm 0 a (omega (arith, W.quotient_within, cn)) ∙ sym (span-rows q n hn 0 a (omega (arith, W.quotient_within, cn)))
 
-    grown_walking : Walking p f g plan new r w' i a b
+    grown_walking : Walking plan new r w' i a b
     grown_walking =
         record {
           live = grown_live old new g w w' front W.live grown enough_long;
@@ -143,7 +151,7 @@ module _
           walked =
               W.walked
               ∙ (λ d. joined (decoded_poly base (sym same_span d)) (decoded_poly base (span r 0 b))
-              (walk_on p f g plan W.fuel a b (seen p (sym same_remaining d))));
+              (walk_on plan W.fuel a b (seen p (sym same_remaining d))));
         }
       where
         unwritten : (x : ℕ) → a ≤ x → x < m → Dec (x < n) → word_at w' (m + x) ≡ 0
@@ -152,11 +160,11 @@ module _
 
 -- The loop
 
-pub runs_first : {p : ℕ} {f g : List ℕ} {plan : Plan} → Ready p f g plan → {q r w₀ w : List ℕ} → Fresh p plan q r w₀ →
-    {k : ℕ} → k ≡ max (key_at f 0) (word_at w 1) →
+pub runs_first : {plan : Plan} {q r w₀ w : List ℕ} → Fresh plan q r w₀ →
+    {k : ℕ} → k ≡ max (key_at plan.f.now 0) (word_at w 1) →
     (m rows : ℕ) → (length w ≡ length w₀) × ((i : ℕ) → i < m → get_or w i 0 ≡ 0) → 2 < m → 4 * rows ≤ m → rows ≤ records q → (0 < records q → 0 < rows) →
-    Running p f g plan q r w q r w rows (state 0 0 0) k
-runs_first R {q} {r} {w₀} {w} F top m rows blank root front h some =
+    Running plan q r w q r w rows (state 0 0 0) k
+runs_first {plan} {q} {r} {w₀} {w} F top m rows blank root front h some =
     let count = rows-count q rows h in
     record {
       quotient_long = refl;
@@ -170,7 +178,7 @@ runs_first R {q} {r} {w₀} {w} F top m rows blank root front h some =
       some = some;
       small = F.small;
       walking =
-          walk-starts R (take (2 * rows) q) r w F.remainders (omega (arith, count, F.few))
+          walk-starts plan (take (2 * rows) q) r w F.remainders (omega (arith, count, F.few))
           (λ x l.
           let e = rows_words q rows h x (omega (arith, count)) in
           let s = F.small x (omega (arith, count)) in
@@ -182,17 +190,15 @@ runs_first R {q} {r} {w₀} {w} F top m rows blank root front h some =
           root;
     }
 
-module _ {p : ℕ} {f g : List ℕ} {plan : Plan} {q₀ r₀ w₀ q r w : List ℕ} {rows : ℕ} {s : State} {k : ℕ} (L : Running p f g plan q₀ r₀ w₀ q r w rows s k) where
-  pub rows_asked : (rows ≤ records q₀) × (0 < records q₀ → 0 < rows) × (4 * records q₀ ≤ length w)
-  rows_asked =
-      let same : records q ≡ records q₀ = ap (λ (x : ℕ). x / 2) L.quotient_long in
-      (omega (arith, L.within), λ h. L.some (omega (arith, same)), omega (arith, L.long))
-
+module _ {plan : Plan} {q₀ r₀ w₀ q r w : List ℕ} {rows : ℕ} {s : State} {k : ℕ} (L : Running plan q₀ r₀ w₀ q r w rows s k) where
   taken_within : s.quotient ≤ rows
   taken_within = omega (arith, L.walking.quotient_within, rows-count q rows L.within)
 
-  pub runs_ended : {v : List ℕ} → length w₀ ≡ length v → k ≤ 0 → Ran p f g plan q₀ r₀ v q r w (Ok s)
+  pub runs_ended : {v : List ℕ} → length w₀ ≡ length v → k ≤ 0 → Ran plan q₀ r₀ v q r w (Ok s)
   runs_ended {v} e z =
+      let p = plan.p in
+      let f = plan.f.now in
+      let g = plan.g.now in
       let W = L.walking in
       let i = s.next in
       let n = s.quotient in
@@ -200,11 +206,11 @@ module _ {p : ℕ} {f g : List ℕ} {plan : Plan} {q₀ r₀ w₀ q r w : List �
       let front = take (2 * rows) q in
       let here : span front 0 n ≡ span q 0 n = span-rows q rows L.within 0 n (omega (arith, taken_within)) in
       let none : remaining p f g front w i ≡ [] = remaining-none p f g front w i W.live (omega (arith, L.top)) in
-      let empty : walk_on p f g plan W.fuel n j (seen p (remaining p f g front w i)) ≡ stopped 0 [] =
-      ap (λ (h : Poly Numbers). walk_on p f g plan W.fuel n j (seen p h)) none
-      ∙ walk-ends (Lex 4) p (term_at base g 0) (terms base g 1 (records g - 1)) (judges_of f g plan) W.fuel n j
+      let empty : walk_on plan W.fuel n j (seen p (remaining p f g front w i)) ≡ stopped 0 [] =
+      ap (λ (h : Poly Numbers). walk_on plan W.fuel n j (seen p h)) none
+      ∙ walk-ends (Lex 4) p (term_at base g 0) (terms base g 1 (records g - 1)) (judges_of f g plan.judge) W.fuel n j
       in
-      let done : whole p f g plan ≡ joined (decoded_poly base (span q 0 n)) (decoded_poly base (span r 0 j)) (stopped 0 []) =
+      let done : whole plan ≡ joined (decoded_poly base (span q 0 n)) (decoded_poly base (span r 0 j)) (stopped 0 []) =
       W.walked ∙ (λ d. joined (decoded_poly base (here d)) (decoded_poly base (span r 0 j)) (empty d))
       in
       record {
@@ -226,41 +232,38 @@ module _ {p : ℕ} {f g : List ℕ} {plan : Plan} {q₀ r₀ w₀ q r w : List �
     E : Enough rows s.quotient (records q) w w' m
     E = subst (λ (x : ℕ). Enough rows s.quotient x w w' m) (ap (λ (x : ℕ). x / 2) (sym L.quotient_long)) E₀
 
-    pub rows_inside : 2 * m ≤ length q
-    rows_inside = omega (arith, E.within)
-
     abbrev Free : Type 0
-    Free = s.quotient < plan.quotients → s.quotient < records (take (2 * m) q)
+    Free = s.quotient < plan.judge.quotients → s.quotient < records (take (2 * m) q)
 
     free : Free
     free h = omega (arith, rows-count q m E.within, E.free taken_within (omega (arith, L.room)))
 
-    pub grows_on : Grew p f g plan q r w w' m s k
+    pub grows_on : Grew plan q r w w' m s k
     grows_on = go E.grown
       where
-        go : ((m ≡ rows) × (w' ≡ w)) ⊎ ((0 < rows) × Grown rows m w w') → Grew p f g plan q r w w' m s k
+        go : ((m ≡ rows) × (w' ≡ w)) ⊎ ((0 < rows) × Grown rows m w w') → Grew plan q r w w' m s k
         go (inl e) =
             record {
               as_long = ap length e.1;
               within = E.within;
-              top = L.top ∙ ap (λ (x : List ℕ). max (key_at f s.next) (word_at x 1)) (sym e.1);
+              top = L.top ∙ ap (λ (x : List ℕ). max (key_at plan.f.now s.next) (word_at x 1)) (sym e.1);
               free = free;
               walking =
-                  subst (λ (x : ℕ). Walking p f g plan (take (2 * x) q) r w' s.next s.quotient s.remainder) (sym e.0)
-                  (subst (λ (x : List ℕ). Walking p f g plan (take (2 * rows) q) r x s.next s.quotient s.remainder) (sym e.1) L.walking);
+                  subst (λ (x : ℕ). Walking plan (take (2 * x) q) r w' s.next s.quotient s.remainder) (sym e.0)
+                  (subst (λ (x : List ℕ). Walking plan (take (2 * rows) q) r x s.next s.quotient s.remainder) (sym e.1) L.walking);
             }
         go (inr e) =
             let root = same_root q L.within E.within E.more e.0 L.long L.small L.few L.walking e.1 in
             record {
               as_long = e.1.as_long;
               within = E.within;
-              top = L.top ∙ ap (max (key_at f s.next)) (sym root);
+              top = L.top ∙ ap (max (key_at plan.f.now s.next)) (sym root);
               free = free;
               walking = grown_walking q L.within E.within E.more e.0 L.long L.small L.few L.walking e.1;
             }
 
     -- after a step on the front of the room
-    module _ {front r' w'' : List ℕ} {end : Result State Reason} (T : Stepped p f g plan (take (2 * m) q) r w' k front r' w'' end) where
+    module _ {front r' w'' : List ℕ} {end : Result State Reason} (T : Stepped plan (take (2 * m) q) r w' k front r' w'' end) where
       abbrev q' : List ℕ
       q' = front ++ drop (2 * m) q
 
@@ -295,9 +298,9 @@ module _ {p : ℕ} {f g : List ℕ} {plan : Plan} {q₀ r₀ w₀ q r w : List �
       pub work_long : length w'' ≡ length w₀
       work_long = T.work_long ∙ grows_on.as_long ∙ L.work_long
 
-      pub runs_on : (t : State) → end ≡ Ok t → {k' : ℕ} → k' ≡ max (key_at f t.next) (word_at w'' 1) → Running p f g plan q₀ r₀ w₀ q' r' w'' m t k'
+      pub runs_on : (t : State) → end ≡ Ok t → {k' : ℕ} → k' ≡ max (key_at plan.f.now t.next) (word_at w'' 1) → Running plan q₀ r₀ w₀ q' r' w'' m t k'
       runs_on t z e =
-          let W = IfOk-at_ok (λ x. Walking p f g plan front r' w'' x.next x.quotient x.remainder) z T.goes_on in
+          let W = IfOk-at_ok (λ x. Walking plan front r' w'' x.next x.quotient x.remainder) z T.goes_on in
           let same : records q' ≡ records q = ap (λ (x : ℕ). x / 2) room-long in
           record {
             quotient_long = quotient_long;
@@ -310,11 +313,11 @@ module _ {p : ℕ} {f g : List ℕ} {plan : Plan} {q₀ r₀ w₀ q r w : List �
             within = omega (arith, same, E.within);
             some = λ h. omega (arith, L.some (omega (arith, same)), E.more);
             small = λ x h. here x (omega (arith, same)) (dec_lt x m) W;
-            walking = subst (λ (x : List ℕ). Walking p f g plan x r' w'' t.next t.quotient t.remainder) (sym same_front) W;
+            walking = subst (λ (x : List ℕ). Walking plan x r' w'' t.next t.quotient t.remainder) (sym same_front) W;
           }
         where
-          here : (x : ℕ) → x < records q → Dec (x < m) → Walking p f g plan front r' w'' t.next t.quotient t.remainder →
-              (word_at q' x < 2 ^ 63) × (coef_at q' x < p)
+          here : (x : ℕ) → x < records q → Dec (x < m) → Walking plan front r' w'' t.next t.quotient t.remainder →
+              (word_at q' x < 2 ^ 63) × (coef_at q' x < plan.p)
           here x h (yes l) W =
               let in-front : x < records front = omega (arith, front-long) in (
                 omega (arith, at-front (2 * x) (omega arith), W.sides.rows_words x in-front),

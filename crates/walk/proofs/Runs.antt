@@ -1,6 +1,5 @@
 -- The whole walk on words: how it starts.
 --
---   zero-words             a cleared array has only zero words
 --   divisor-terms          a divisor is its first term and the later ones
 --   walk-starts            over a cleared tree the walk starts with the whole dividend
 use Prim.Native.Nat.{ℕ, suc, ◌+◌, ◌-◌, ◌*◌, ◌^◌, ◌<◌, ◌≤◌}
@@ -10,7 +9,7 @@ use mathlib.Core.Logic.{inl}
 use native.Mathlib.Nat.{max-le, sub-zero}
 use native.Mathlib.Decide.{dec_lt}
 use native.Mathlib.Omega.{arith}
-use lib.ListN.{length, get_or, replicate, get_or-replicate, length-replicate, get_or-eq_default}
+use lib.ListN.{length, get_or}
 use Rattle.algebra.specs.Orders.{Rising}
 use Rattle.algebra.specs.Polynomials.{negated, sorted}
 use Rattle.algebra.proofs.NormalForm.{reduced_small}
@@ -33,12 +32,6 @@ steps_enough : 2 ^ 64 ≤ steps
 unfolding steps
 steps_enough = omega arith
 
-pub zero-words : (n i : ℕ) → get_or {A = ℕ} (replicate n 0) i 0 ≡ 0
-zero-words n i = elim (dec_lt i n) [
-  | yes h ↦ get_or-replicate n i 0 0 h
-  | no h ↦ get_or-eq_default (replicate n 0) 0 (omega (arith, length-replicate {A = ℕ} n 0))
-]
-
 -- a divisor is its first term and the later ones
 pub divisor-terms : (g : List ℕ) → 0 < records g → poly_of base g ≡ term_at base g 0 ∷ terms base g 1 (records g - 1)
 unfolding poly_of
@@ -46,10 +39,22 @@ divisor-terms g h = let more : records g ≡ suc (records g - 1) = omega arith i
 
 -- nothing waits in a tree whose words are zero: here the first m words of the work, which are at least those of the tree
 module _
-    {p : ℕ} {f g : List ℕ} {plan : Plan} (R : Ready p f g plan) (q r w : List ℕ) (other : plan.remainders ≡ records r) (few : records q < 2 ^ 32)
-    (small : (x : ℕ) → x < records q → (word_at q x < 2 ^ 63) × (coef_at q x < p)) (long : 4 * records q ≤ length w)
+    (plan : Plan) (q r w : List ℕ) (other : plan.judge.remainders ≡ records r) (few : records q < 2 ^ 32)
+    (small : (x : ℕ) → x < records q → (word_at q x < 2 ^ 63) × (coef_at q x < plan.p)) (long : 4 * records q ≤ length w)
     (m : ℕ) (blank : (i : ℕ) → i < m → get_or w i 0 ≡ 0) (front : 4 * records q ≤ m) (root : 2 < m)
   where
+    abbrev p : ℕ
+    p = plan.p
+
+    abbrev f : List ℕ
+    f = plan.f.now
+
+    abbrev g : List ℕ
+    g = plan.g.now
+
+    abbrev R : Ready p f g plan.inverse plan.judge
+    R = plan.ready
+
     live : Live q g w
     live =
         record {
@@ -91,7 +96,7 @@ module _
           | no h ↦ omega (arith, key_beyond f 0 (omega arith))
         ]
 
-    pub walk-starts : Walking p f g plan q r w 0 0 0
+    pub walk-starts : Walking plan q r w 0 0 0
     walk-starts =
         record {
           live = live;
@@ -114,5 +119,5 @@ module _
           remainder_monomials = tt;
           fuel = steps;
           enough = max-le (omega (arith, first-key, steps_enough)) (omega (arith, blank 2 root));
-          walked = λ d. walk_by p (judges_of f g plan) (dividend d) (divisor-terms g R.some d);
+          walked = λ d. walk_by p (judges_of f g plan.judge) (dividend d) (divisor-terms g R.some d);
         }

@@ -15,12 +15,12 @@ use Rattle.steps.specs.declared.State.{State}
 use Rattle.steps.specs.Walking.{whole}
 
 -- the rooms and the work, in which a walk may start: the records of the quotient room may be rows, and the work is long enough
-pub record Fresh (p : ℕ) (plan : Plan) (q r w : List ℕ) : Type 0 where
-  pub quotients : plan.quotients ≡ records q
-  pub remainders : plan.remainders ≡ records r
+pub record Fresh (plan : Plan) (q r w : List ℕ) : Type 0 where
+  pub quotients : plan.judge.quotients ≡ records q
+  pub remainders : plan.judge.remainders ≡ records r
   pub long : 4 * records q ≤ length w
   pub few : records q < 2 ^ 32
-  pub small : (x : ℕ) → x < records q → (word_at q x < 2 ^ 63) × (coef_at q x < p)
+  pub small : (x : ℕ) → x < records q → (word_at q x < 2 ^ 63) × (coef_at q x < plan.p)
 
 -- A tree of n rows has m rows afterwards, one that is not taken among them as far as the room goes.
 pub record Enough (n taken room : ℕ) (w w' : List ℕ) (m : ℕ) : Type 0 where
@@ -30,17 +30,17 @@ pub record Enough (n taken room : ℕ) (w w' : List ℕ) (m : ℕ) : Type 0 wher
   pub grown : ((m ≡ n) × (w' ≡ w)) ⊎ ((0 < n) × Grown n m w w')
 
 -- what a walk that came to its end has written in its rooms
-pub record Wrote (p : ℕ) (f g : List ℕ) (plan : Plan) (q r : List ℕ) (s : State) : Type 0 where
+pub record Wrote (plan : Plan) (q r : List ℕ) (s : State) : Type 0 where
   pub quotient_within : s.quotient ≤ records q
   pub remainder_within : s.remainder ≤ records r
   pub quotient_monomials : Monomial (span q 0 s.quotient)
   pub remainder_monomials : Monomial (span r 0 s.remainder)
   pub ends :
-      whole p f g plan ≡ joined (decoded_poly base (span q 0 s.quotient)) (decoded_poly base (span r 0 s.remainder)) (stopped 0 [])
+      whole plan ≡ joined (decoded_poly base (span q 0 s.quotient)) (decoded_poly base (span r 0 s.remainder)) (stopped 0 [])
 
-pub record Ran (p : ℕ) (f g : List ℕ) (plan : Plan) (q r w q' r' w' : List ℕ) (end : Result State Reason) : Type 0 where
+pub record Ran (plan : Plan) (q r w q' r' w' : List ℕ) (end : Result State Reason) : Type 0 where
   pub quotient_long : length q' ≡ length q
   pub remainder_long : length r' ≡ length r
   pub work_long : length w' ≡ length w
-  pub replies : (whole p f g plan).reply ≡ reply_of end
-  pub wrote : IfOk end (λ s. Wrote p f g plan q' r' s)
+  pub replies : (whole plan).reply ≡ reply_of end
+  pub wrote : IfOk end (λ s. Wrote plan q' r' s)

@@ -2,7 +2,6 @@
 #![tactic(auto)]
 
 ghost use Rattle.std.specs.Prelude.{◌≡◌, ℕ, ◌*◌, ◌<◌, ◌≤◌, length, get_or};
-ghost use Rattle.judges.specs.Plans.{Ready};
 ghost use Rattle.walk.specs.Running.{Fresh, Enough, Ran};
 
 use growth::grow;
@@ -15,19 +14,10 @@ use steps::{State, step};
 // The rows of a new tree. It grows with the quotient, so that a room much longer than the quotient costs nothing.
 const FIRST_ROWS: usize = 16;
 
-// Walks down f by the divisor g, as the plan has it: the quotient in q, the remainder in r, or the reason that stopped the walk.
-pub fn run(
-    p: u64,
-    f: &[u64],
-    g: &[u64],
-    q: &mut [u64],
-    r: &mut [u64],
-    work: &mut [u64],
-    plan: Plan,
-) -> Result<State, Reason>
-    requires ready { Ready p f.now g.now plan }
-    requires fresh { Fresh p plan q.old r.old work.old }
-    ensures { Ran p f.now g.now plan q.old r.old work.old q.new r.new work.new result }
+// Walks down the dividend as the plan has it: the quotient in q, the remainder in r, or the reason that stopped the walk.
+pub fn run(plan: &Plan<'_>, q: &mut [u64], r: &mut [u64], work: &mut [u64]) -> Result<State, Reason>
+    requires { Fresh plan.now q.old r.old work.old }
+    ensures { Ran plan.now q.old r.old work.old q.new r.new work.new result }
 {
     let room = q.len() / 2;
     let mut rows = FIRST_ROWS.min(room);
@@ -37,11 +27,11 @@ pub fn run(
         quotient: 0,
         remainder: 0,
     };
-    let mut k = greatest_key(f, work, 0);
+    let mut k = greatest_key(plan.f, work, 0);
     while 0 < k {
         rows = enough_rows(work, rows, s.quotient, room);
-        s = step(p, f, g, &mut q[..2 * rows], r, work, plan, s, k)?;
-        k = greatest_key(f, work, s.next);
+        s = step(plan, &mut q[..2 * rows], r, work, s, k)?;
+        k = greatest_key(plan.f, work, s.next);
     }
     Ok(s)
 }

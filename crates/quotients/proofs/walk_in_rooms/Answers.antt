@@ -6,7 +6,7 @@ use Rattle.quotients.proofs.walk_in_rooms.Goals as goal
 pub returns : goal.returns
 returns c =
     let a = c.args in
-    rooms_left a.test a.q.now a.r.now a.work.now c.clear.ensures c.prepare-plan.ensures c.run-end.ensures c.map.result c.map-2.result c.map-3.result
+    rooms_left a.q.now a.r.now a.work.now c.clear.ensures c.run-end.ensures c.map.result c.map-2.result c.map-3.result
     c.clear-2.ensures
     c.leave.ensures
     c.leave-2.ensures

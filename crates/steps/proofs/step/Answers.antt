@@ -14,18 +14,18 @@ use Rattle.steps.proofs.step.Goals.{Else-h-eq0, Then-divides, Else-divides}
 -- Places: the head that is not 0; where the divisor's lead divides its monomial; where it does not
 
 head : (c : Else-h-eq0) → let a = c.args in let h = c.take_head-h in
-    AtHead a.p a.f.now a.g.now a.plan a.q.now a.r.now a.work.now a.s.next a.s.quotient a.s.remainder a.k h.new.work h.result.next h.result.coef
-head c = at_head (c.requires.head, (c.requires.ready, c.requires.walking)) c.take_head-h.ensures
+    AtHead a.plan.now a.q.now a.r.now a.work.now a.s.next a.s.quotient a.s.remainder a.k h.new.work h.result.next h.result.coef
+head c = at_head c.requires.head c.requires.walking c.take_head-h.ensures
 
-lead-divides : (c : Then-divides) → let a = c.args in word_divides base (word_at a.g.now 0) (a.k - 1) ≡ true
+lead-divides : (c : Then-divides) → let a = c.args in word_divides base (word_at a.plan.now.g.now 0) (a.k - 1) ≡ true
 lead-divides c = sym c.divides.ensures ∙ c.if-divides.true
 
-lead-not : (c : Else-divides) → let a = c.args in word_divides base (word_at a.g.now 0) (a.k - 1) ≡ false
+lead-not : (c : Else-divides) → let a = c.args in word_divides base (word_at a.plan.now.g.now 0) (a.k - 1) ≡ false
 lead-not c = sym c.divides.ensures ∙ c.if-divides.false
 
 pub returns-then-h-eq0 : goal.returns-then-h-eq0
 returns-then-h-eq0 c =
-    step_skips (at_head (c.requires.head, (c.requires.ready, c.requires.walking)) c.take_head-h.ensures) c.if-h-eq0.true
+    step_skips (at_head c.requires.head c.requires.walking c.take_head-h.ensures) c.if-h-eq0.true
 
 pub overflow_sub-word : goal.overflow_sub-word
 overflow_sub-word c =
@@ -35,7 +35,7 @@ overflow_sub-word c =
 pub judge_quotient-requires : goal.judge_quotient-requires
 judge_quotient-requires c =
     let at = goal.at.judge_quotient-requires c in
-    ((quotient-word (head at.Else-h-eq0) c.if-h-eq0.false (lead-divides at.Then-divides)).0, divisor_monomial _ _ _ _ c.requires.ready)
+    ((quotient-word (head at.Else-h-eq0) c.if-h-eq0.false (lead-divides at.Then-divides)).0, divisor_monomial c.args.plan.now.ready)
 
 pub returns-in_err-judge_quotient : goal.returns-in_err-judge_quotient
 returns-in_err-judge_quotient c =
@@ -44,9 +44,9 @@ returns-in_err-judge_quotient c =
     rw (p.1, p.2)
     (step_stops_quotient (head at.Else-h-eq0) c.if-h-eq0.false (lead-divides at.Then-divides) _ c.in_err-judge_quotient.ensures)
 
-pub mul_mod-requires : goal.mul_mod-requires
-mul_mod-requires c =
-    let small = factors_small (head (goal.at.mul_mod-requires c).Else-h-eq0) in (c.requires.ready.positive, small.0, small.1)
+pub mul_mod-coef-requires : goal.mul_mod-coef-requires
+mul_mod-coef-requires c =
+    let small = factors_small (head (goal.at.mul_mod-coef-requires c).Else-h-eq0) in (c.args.plan.now.ready.positive, small.0, small.1)
 
 pub put_row-requires : goal.put_row-requires
 put_row-requires c =
@@ -58,7 +58,7 @@ pub returns-then-divides : goal.returns-then-divides
 returns-then-divides c =
     let at = goal.at.returns-then-divides c in
     step-divides (head at.Else-h-eq0) c.if-h-eq0.false (lead-divides at.Then-divides) (sym c.in_ok-judge_quotient.ensures)
-    c.mul_mod.ensures
+    c.mul_mod-coef.ensures
     c.put_row.ensures
 
 pub returns-in_err-judge_remainder : goal.returns-in_err-judge_remainder

@@ -4,7 +4,7 @@ use Rattle.walk.proofs.Looping.{Running}
 use Rattle.walk.proofs.run.Given as goal
 
 abbrev pub invariant-loop-k : goal.invariant-loop-k
-invariant-loop-k l = Running l.p l.f l.g l.plan l.initial.q l.initial.r l.initial.work l.q l.r l.work l.rows l.s l.k
+invariant-loop-k l = Running l.plan l.initial.q l.initial.r l.initial.work l.q l.r l.work l.rows l.s l.k
 
 abbrev pub decreases-loop-k : goal.decreases-loop-k
 decreases-loop-k l = l.k
