@@ -1,129 +1,119 @@
-// The calls on polynomials, each as a line of the sheet. What a call left is printed where it is what the row says: the row's own words
-// are the words that were found.
-ghost use Rattle.std.specs.Prelude.{◌*◌, ◌≤◌, ◌≡◌};
-ghost use Rattle.refusals.specs.Reports.{done};
-ghost use Rattle.claims.specs.Sheet.{right};
-ghost use Rattle.rows.specs.Cases.{product_row, division_row, test_row};
+// The cases of the sheet: what each calls, and what came of it.
+ghost use Rattle.std.specs.Prelude.{◌≡◌};
+ghost use Rattle.sheet.specs.Cases.{report_of, Fits, Gives, is_right};
 
-use crate::text::{
-    print_call, print_output, print_reply, print_room, print_verdict, print_words, write,
-};
-use refusals::report::{Report, done};
+use crate::random::{DRAWS, draws};
+use crate::text::Poly;
+use reasons::Reason;
+use refusals::report::{Report, done, refusal};
 use rows::Tried;
+use rows::fields::{balanced_tried, modulus_tried};
 use rows::polys::{division_tried, product_tried, test_tried};
 
-// The product.
-pub fn product_case(
-    row: u64,
-    p: u64,
-    a: &[u64],
-    b: &[u64],
-    room: usize,
-    work: usize,
-    says: Report,
-    written: &[u64],
-) -> bool
-    requires { (2 * room ≤ 16384) × (work ≤ 16384) }
-    ensures { result ≡ right (product_row p a.now b.now room work says written.now) }
-{
-    let tried = product_tried(p, a, b, room, work, says, written);
-    tell_product(row, p, a, b, room, tried, written);
-    tried.right
+// The row of a case, and its modulus.
+pub type Row = u64;
+
+pub type Modulus = u64;
+
+// A room by its terms, and a work array by its words.
+type Room = usize;
+
+type Work = usize;
+
+// A call: its inputs, its rooms, its work array, what it has to answer, and what it has to write.
+#[derive(Clone, Copy)]
+pub enum Case<'a> {
+    Product(Row, Modulus, Poly<'a>, Poly<'a>, Room, Work, Says, Poly<'a>),
+    Division(Row, Modulus, Poly<'a>, Poly<'a>, Room, Room, Work, Says, Poly<'a>, Poly<'a>),
+    // a division of which the whole quotient array is shown
+    QuotientArray(Row, Modulus, Poly<'a>, Poly<'a>, Room, Room, Work, Says, Poly<'a>, Poly<'a>),
+    DivideTest(Row, Modulus, Poly<'a>, Poly<'a>, Room, Work, Says, Poly<'a>),
+    Check(Row, Modulus, Poly<'a>, Says),
+    // a residue, and its balanced value
+    Balanced(Row, Modulus, u64, i32),
+    // of random polynomials, each by itself
+    Divisions(Row, Modulus),
 }
 
-fn tell_product(
-    row: u64,
-    p: u64,
-    a: &[u64],
-    b: &[u64],
-    room: usize,
-    tried: Tried,
-    written: &[u64],
-) {
-    print_call(row, b"product", p, a, b" and ", b);
-    print_room(b", room ", room);
-    print_reply(tried.number);
-    print_output(tried, b" ", written);
-    print_verdict(tried.right);
+// What a call has to answer: reply 0 with the terms of its outputs, or a refusal, and the operand that it blames.
+#[derive(Clone, Copy)]
+pub enum Says {
+    Done(u64, u64),
+    Stop(Reason, u64),
 }
 
-// Division with remainder.
-pub fn division_case(
-    row: u64,
-    p: u64,
-    f: &[u64],
-    g: &[u64],
-    q: usize,
-    r: usize,
-    work: usize,
-    says: Report,
-    quotient: &[u64],
-    remainder: &[u64],
-) -> bool
-    requires { (2 * q ≤ 16384) × (2 * r ≤ 16384) × (work ≤ 16384) }
-    ensures { result
-        ≡ right (division_row p f.now g.now q r work says quotient.now remainder.now) }
-{
-    let tried = division_tried(p, f, g, q, r, work, says, quotient, remainder);
-    tell_division(row, p, f, g, q, r);
-    tell_both(tried, quotient, remainder);
-    tried.right
+// What a case gave: of a call whether it is right, and of random divisions how many are.
+#[derive(Clone, Copy)]
+pub enum Found {
+    Reply(Tried),
+    Draws(usize),
 }
 
-fn tell_division(row: u64, p: u64, f: &[u64], g: &[u64], q: usize, r: usize) {
-    print_call(row, b"division", p, f, b" by ", g);
-    print_room(b", rooms ", q);
-    print_room(b" and ", r);
-}
-
-fn tell_both(tried: Tried, quotient: &[u64], remainder: &[u64]) {
-    print_reply(tried.number);
-    print_output(tried, b" quotient ", quotient);
-    print_output(tried, b", remainder ", remainder);
-    print_verdict(tried.right);
-}
-
-// The divide test.
-pub fn test_case(
-    row: u64,
-    p: u64,
-    f: &[u64],
-    g: &[u64],
-    q: usize,
-    work: usize,
-    says: Report,
-    quotient: &[u64],
-) -> bool
-    requires { (2 * q ≤ 16384) × (work ≤ 16384) }
-    ensures { result ≡ right (test_row p f.now g.now q work says quotient.now) }
-{
-    let tried = test_tried(p, f, g, q, work, says, quotient);
-    tell_test(row, p, f, g, q, tried, quotient);
-    tried.right
-}
-
-fn tell_test(row: u64, p: u64, f: &[u64], g: &[u64], q: usize, tried: Tried, quotient: &[u64]) {
-    print_call(row, b"divide test", p, f, b" by ", g);
-    print_room(b", room ", q);
-    print_reply(tried.number);
-    print_output(tried, b" quotient ", quotient);
-    print_verdict(tried.right);
-}
-
-// The whole quotient array of the division of row 3, with quotient room 3.
-pub fn array_case(row: u64, p: u64, f: &[u64], g: &[u64], array: &[u64], remainder: &[u64]) -> bool
-    ensures { result ≡ right (division_row p f.now g.now 3 4 12 (done 2 3) array.now remainder.now) }
-{
-    let tried = division_tried(p, f, g, 3, 4, 12, done(2, 3), array, remainder);
-    tell_array(row, p, f, g, tried, array);
-    tried.right
-}
-
-fn tell_array(row: u64, p: u64, f: &[u64], g: &[u64], tried: Tried, array: &[u64]) {
-    print_call(row, b"quotient array", p, f, b" by ", g);
-    write(b", room 3:");
-    if tried.right {
-        print_words(array);
+impl Says {
+    fn report(self) -> Report
+        ensures { result ≡ report_of self }
+    {
+        match self {
+            Says::Done(first, second) => done(first, second),
+            Says::Stop(reason, operand) => refusal(reason.number(), operand, 0),
+        }
     }
-    print_verdict(tried.right);
+}
+
+impl Case<'_> {
+    // Runs the call of a case.
+    pub fn tried(&self) -> Found
+        requires { Fits self.now }
+        ensures { Gives self.now result }
+    {
+        match *self {
+            Case::Product(_, p, a, b, room, work, says, product) => Found::Reply(product_tried(
+                p,
+                a.0,
+                b.0,
+                room,
+                work,
+                says.report(),
+                product.0,
+            )),
+            Case::Division(_, p, f, g, q, r, work, says, quotient, remainder)
+            | Case::QuotientArray(_, p, f, g, q, r, work, says, quotient, remainder) => {
+                Found::Reply(division_tried(
+                    p,
+                    f.0,
+                    g.0,
+                    q,
+                    r,
+                    work,
+                    says.report(),
+                    quotient.0,
+                    remainder.0,
+                ))
+            }
+            Case::DivideTest(_, p, f, g, q, work, says, quotient) => Found::Reply(test_tried(
+                p,
+                f.0,
+                g.0,
+                q,
+                work,
+                says.report(),
+                quotient.0,
+            )),
+            Case::Check(_, p, a, says) => Found::Reply(modulus_tried(p, a.0, says.report())),
+            Case::Balanced(_, p, c, value) => Found::Reply(balanced_tried(p, c, value)),
+            Case::Divisions(_, p) => Found::Draws(draws(p)),
+        }
+    }
+}
+
+impl Found {
+    // Whether all is as the sheet says.
+    pub fn right(self) -> bool
+        ensures { result ≡ is_right self }
+    {
+        match self {
+            Found::Reply(tried) => tried.right,
+            Found::Draws(right) => right == DRAWS,
+        }
+    }
 }

@@ -1,144 +1,80 @@
 // What a line is made of. Polynomials are written as in RULES Text: each coefficient, then the letters that have an exponent.
 use monomial::exponent;
-use rows::Tried;
+use reasons::Reason;
+use std::fmt;
 
-pub fn write(text: &[u8]) {
-    io::write_all(1, text);
-}
+// The polynomial in an array, up to the zero words behind its terms. The zero polynomial has no term, and is written 0.
+#[derive(Clone, Copy)]
+pub struct Poly<'a>(pub &'a [u64]);
 
-// The polynomial in an array, up to the zero words behind its terms.
-pub fn print_poly(s: &[u64]) {
-    let n = s.len() / 2;
-    let mut i = 0;
-    while i < n {
-        let coef = s[2 * i + 1];
-        if coef == 0 {
-            break;
-        }
-        print_term(i, s[2 * i], coef);
-        i += 1;
-    }
-    print_if_zero(i);
-}
-
-// The zero polynomial has no term, and is written 0.
-fn print_if_zero(terms: usize) {
-    if terms == 0 {
-        write(b"0");
-    }
-}
-
-fn print_term(place: usize, word: u64, coef: u64) {
-    if 0 < place {
-        write(b"+");
-    }
-    io::print_decimal(1, coef);
-    print_power(b"*x", exponent(word, 0));
-    print_power(b"*y", exponent(word, 1));
-    print_power(b"*z", exponent(word, 2));
-    print_power(b"*t", exponent(word, 3));
-}
-
-fn print_power(letter: &[u8], exponent: u64) {
-    if exponent == 0 {
-        return;
-    }
-    write(letter);
-    if 1 < exponent {
-        write(b"^");
-        io::print_decimal(1, exponent);
-    }
+// A coefficient, and then the letters of a monomial word that have an exponent.
+#[derive(Clone, Copy)]
+struct Term {
+    word: u64,
+    coefficient: u64,
 }
 
 // The words of an array, in hexadecimal.
-pub fn print_words(s: &[u64]) {
-    let mut i = 0;
-    while i < s.len() {
-        print_word(s[i]);
-        i += 1;
-    }
-}
-
-fn print_word(word: u64) {
-    write(b" ");
-    io::print_hex(1, word, 16);
-}
-
-// How a line begins.
-pub fn print_head(row: u64, call: &[u8], p: u64) {
-    write(b"row ");
-    io::print_decimal(1, row);
-    write(b": ");
-    write(call);
-    write(b" mod ");
-    io::print_decimal(1, p);
-    write(b" of ");
-}
-
-// A call on two polynomials.
-pub fn print_call(row: u64, call: &[u8], p: u64, f: &[u64], between: &[u8], g: &[u64]) {
-    print_head(row, call, p);
-    print_poly(f);
-    write(between);
-    print_poly(g);
-}
-
-// A room by its terms.
-pub fn print_room(name: &[u8], terms: usize) {
-    write(name);
-    io::print_decimal(1, terms as u64);
-}
-
-// What was found in a room after reply 0, where it is what the row says.
-pub fn print_output(tried: Tried, name: &[u8], written: &[u64]) {
-    if !tried.right {
-        return;
-    }
-    if tried.number == 0 {
-        write(name);
-        print_poly(written);
-    }
-}
+#[derive(Clone, Copy)]
+pub struct Words<'a>(pub &'a [u64]);
 
 // A reply with its meaning.
-pub fn print_reply(number: u64) {
-    write(b": ");
-    io::print_decimal(1, number);
-    match number {
-        1..=8 => print_refusal(number),
-        _ => print_answer(number),
+#[derive(Clone, Copy)]
+pub struct Reply(pub u64);
+
+impl fmt::Display for Poly<'_> {
+    fn fmt<W: fmt::Write>(&self, f: &mut fmt::Formatter<W>) -> fmt::Result {
+        let mut terms = self
+            .0
+            .chunks_exact(2)
+            .map(|record| Term {
+                word: record[0],
+                coefficient: record[1],
+            })
+            .take_while(|term| term.coefficient != 0);
+        let Some(first) = terms.next() else {
+            return f.write_str("0");
+        };
+        write!(f, "{first}")?;
+        for term in terms {
+            write!(f, "+{term}")?;
+        }
+        Ok(())
     }
 }
 
-fn print_refusal(number: u64) {
-    match number {
-        1 => write(b" (the modulus is not a prime in its range)"),
-        2 => write(b" (an odd length)"),
-        3 => write(b" (too many terms)"),
-        4 => write(b" (a guard bit is set)"),
-        5 => write(b" (a monomial is not below the one before)"),
-        6 => write(b" (a coefficient is 0 or at least the modulus)"),
-        7 => write(b" (the divisor is zero)"),
-        _ => write(b" (the work array is too short)"),
+impl fmt::Display for Term {
+    fn fmt<W: fmt::Write>(&self, f: &mut fmt::Formatter<W>) -> fmt::Result {
+        write!(f, "{}", self.coefficient)?;
+        for (letter, name) in ['x', 'y', 'z', 't'].iter().enumerate() {
+            match exponent(self.word, letter as u64) {
+                0 => (),
+                1 => write!(f, "*{name}")?,
+                power => write!(f, "*{name}^{power}")?,
+            }
+        }
+        Ok(())
     }
 }
 
-fn print_answer(number: u64) {
-    match number {
-        0 => write(b" (done)"),
-        9 => write(b" (an exponent over 32,767)"),
-        10 => write(b" (no room in the sum, product or quotient)"),
-        11 => write(b" (no room in the remainder)"),
-        12 => write(b" (does not divide)"),
-        _ => write(b" (no such reply)"),
+impl fmt::Display for Words<'_> {
+    fn fmt<W: fmt::Write>(&self, f: &mut fmt::Formatter<W>) -> fmt::Result {
+        for word in self.0 {
+            write!(f, " {word:016x}")?;
+        }
+        Ok(())
     }
 }
 
-// How a line ends.
-pub fn print_verdict(right: bool) {
-    if right {
-        write(b"; as the sheet says\n");
-    } else {
-        write(b"; NOT as the sheet says\n");
+impl fmt::Display for Reply {
+    fn fmt<W: fmt::Write>(&self, f: &mut fmt::Formatter<W>) -> fmt::Result {
+        let number = self.0;
+        if number == 0 {
+            return f.write_str("0 (done)");
+        }
+        match Reason::try_from(number) {
+            Ok(reason) => write!(f, "{number} ({reason})"),
+            Err(unknown) => write!(f, "{number} ({unknown})"),
+        }
     }
 }

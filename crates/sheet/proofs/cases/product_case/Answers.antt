@@ -1,7 +1,0 @@
--- `sheet::cases::product_case` meets its contract.
-use mathlib.Core.Path.{ap}
-use Rattle.rows.specs.declared.Tried.{Tried}
-use Rattle.sheet.proofs.cases.product_case.Goals as goal
-
-pub returns : goal.returns
-returns c = ap (λ (t : Tried). t.right) c.product_tried-tried.ensures

@@ -1,7 +1,0 @@
--- `sheet::fields::modulus_case` meets its contract.
-use mathlib.Core.Path.{ap}
-use Rattle.rows.specs.declared.Tried.{Tried}
-use Rattle.sheet.proofs.fields.modulus_case.Goals as goal
-
-pub returns : goal.returns
-returns c = ap (λ (t : Tried). t.right) c.modulus_tried-tried.ensures

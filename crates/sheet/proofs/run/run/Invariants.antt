@@ -1,0 +1,6 @@
+-- `sheet::run::run` meets its contract.
+use Rattle.std.proofs.Common.{◌≤◌}
+use Rattle.sheet.proofs.run.run.Given as goal
+
+abbrev pub invariant-loop-case : goal.invariant-loop-case
+invariant-loop-case g l = l.right ≤ l.case-index

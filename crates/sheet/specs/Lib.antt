@@ -1,0 +1,2 @@
+-- What a case of the sheet has to give.
+pub mod Cases
