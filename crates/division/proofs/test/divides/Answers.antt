@@ -3,7 +3,6 @@ use mathlib.Core.Path.{◌≡◌, ◌∙◌, ap}
 use mathlib.Core.List.{[], ◌∷◌}
 use Rattle.refusals.proofs.Reports.{done_number, refused_number}
 use Rattle.refusals.specs.Reports.{none, first_or}
-use Rattle.refusals.proofs.Reports.{done_number, refused_number}
 use Rattle.refusals.specs.Rules.{lent, input_terms}
 use Rattle.dues.specs.Dues.{with_room}
 use Rattle.dues.specs.declared.Due.{Due}
