@@ -2,13 +2,14 @@
 --
 --   passed             a result r with a value says that p is a modulus and the operands are good
 --   passed-both        the same of two operands, each below its bound
---   answer_tried       number and value of a result are those of the answer
+--   value_tried, balance_tried   number and value of a result are those of the answer
 --   answer_passed      where the answer has the number 0, none was due
 use Prim.Native.Nat.{ℕ, ◌<◌}
 use mathlib.Core.Path.{◌≡◌, refl, sym, ◌∙◌}
 use mathlib.Core.Bool.{Bool, true, false, ◌&&◌}
 use native.Mathlib.Omega.{arith}
 use lib.Dec.{eqb, ltb}
+use lib.IntN.{ℤ, pos}
 use borrow.Author.Tests.{ltb-true}
 use Rattle.std.proofs.Common.{Result, Ok, Err}
 use Rattle.algebra.specs.Residues.{pick}
@@ -16,7 +17,7 @@ use Rattle.algebra.proofs.Tests.{both_true}
 use Rattle.reasons.specs.declared.Reason.{Reason}
 use Rattle.reasons.specs.declared.Reason.TheVariants.{BadModulus, BadCoefficient}
 use Rattle.moduli.specs.Moduli.{is_modulus}
-use Rattle.field.specs.Answers.{or_refused, tried, value, no_value, value_of}
+use Rattle.field.specs.Answers.{or_refused, tried, value, no_value, value_of, balance_of}
 
 pub passed : (p : ℕ) (good : Bool) {r : Result (Unit {0}) Reason} → r ≡ tried p good tt → r ≡ Ok tt → (is_modulus p ≡ true) × (good ≡ true)
 passed p good e f = go (is_modulus p) good (sym e ∙ f)
@@ -33,7 +34,7 @@ passed-both p x a y b e f =
     let k = both_true (ltb x a) (ltb y b) h.1 in
     (h.0, ltb-true x a k.0, ltb-true y b k.1)
 
-pub answer_tried : {A B : Type 0} (done : A → B) (refused : ℕ → B) (of : Result A Reason → B) →
+answer_tried : {A B : Type 0} (done : A → B) (refused : ℕ → B) (of : Result A Reason → B) →
     ((v : A) → of (Ok v) ≡ done v) → of (Err BadModulus) ≡ refused 1 → of (Err BadCoefficient) ≡ refused 6 → (p : ℕ) (good : Bool) (v : A) →
     of (tried p good v) ≡ or_refused refused p good (done v)
 answer_tried done refused of d one six p good v = go (is_modulus p) good
@@ -45,6 +46,11 @@ answer_tried done refused of d one six p good v = go (is_modulus p) good
 
 pub value_tried : (p : ℕ) (good : Bool) (v : ℕ) → value_of (tried p good v) ≡ or_refused no_value p good (value v)
 value_tried p good v = answer_tried value no_value value_of (λ v. refl) refl refl p good v
+
+pub balance_tried : (p : ℕ) (good : Bool) (v : ℤ) →
+    balance_of (tried p good v) ≡ or_refused (λ r. record { number = r; value = pos 0 }) p good (record { number = 0; value = v })
+balance_tried p good v =
+    answer_tried (λ v. record { number = 0; value = v }) (λ r. record { number = r; value = pos 0 }) balance_of (λ v. refl) refl refl p good v
 
 pub answer_passed : {A : Type 0} (number : A → ℕ) (refused : ℕ → A) → ((r : ℕ) → number (refused r) ≡ r) → (p : ℕ) (good : Bool) (v : A) →
     number (or_refused refused p good v) ≡ 0 → (is_modulus p ≡ true) × (good ≡ true)

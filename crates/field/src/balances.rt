@@ -20,6 +20,7 @@ impl From<Result<i32, Reason>> for Balance {
 }
 
 // The balanced value of a residue.
+#[tactic(auto, using(crate::proofs::Operands::balance_tried), unfolding(crate::specs::Answers::balanced_of))]
 pub fn balanced(p: u64, c: u64) -> Balance
     ensures { result ≡ balanced_of p c }
 {
@@ -46,6 +47,7 @@ fn balanced_mod(p: u64, c: u64) -> i32
 }
 
 // The residue of any signed 32-bit number: the way back from the balanced value.
+#[tactic(auto, using(crate::proofs::Operands::value_tried), unfolding(crate::specs::Answers::residue_of))]
 pub fn residue(p: u64, n: i32) -> Value
     ensures { result ≡ residue_of p n }
 {

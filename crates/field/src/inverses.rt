@@ -7,6 +7,7 @@ use moduli::inverse_mod;
 use reasons::Reason;
 
 // The inverse of a residue other than 0.
+#[tactic(auto, using(crate::proofs::Operands::value_tried), unfolding(crate::specs::Answers::inverse_of))]
 pub fn inverse(p: u64, a: u64) -> Value
     ensures { result ≡ inverse_of p a }
 {

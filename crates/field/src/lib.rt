@@ -43,6 +43,7 @@ impl From<Result<u64, Reason>> for Value {
 }
 
 // The sum of two residues.
+#[tactic(auto, using(crate::proofs::Operands::value_tried), unfolding(crate::specs::Answers::field_sum_of))]
 pub fn sum(p: u64, a: u64, b: u64) -> Value
     ensures { result ≡ field_sum_of p a b }
 {
@@ -57,6 +58,7 @@ fn try_sum(p: u64, a: u64, b: u64) -> Result<u64, Reason>
 }
 
 // The product of two residues.
+#[tactic(auto, using(crate::proofs::Operands::value_tried), unfolding(crate::specs::Answers::field_product_of))]
 pub fn product(p: u64, a: u64, b: u64) -> Value
     ensures { result ≡ field_product_of p a b }
 {

@@ -25,8 +25,8 @@ pub fn measure(s: &[u64]) -> Profile
     let mut z: u64 = 0;
     let mut t: u64 = 0;
     let mut total: u64 = 0;
-    for record in records {
-        let word = record[0];
+    for [word, _] in records {
+        let word = *word;
         let ex = exponent(word, 0);
         let ey = exponent(word, 1);
         let ez = exponent(word, 2);

@@ -5,7 +5,7 @@ use Rattle.moduli.proofs.is_prime.Goals as goal
 use Rattle.moduli.proofs.is_prime.Goals.{else-loop-d-test, then-loop-d-test+then-p-d}
 
 pub returns-then-p-d-eq0 : goal.returns-then-p-d-eq0
-returns-then-p-d-eq0 c = sym (divided_not_prime c.loop-d.auto.d c.if-p-d.false c.if-p-d-eq0.true)
+returns-then-p-d-eq0 c = sym (divided_not_prime {d = c.loop-d.d} (omega arith) (omega arith) c.if-p-d-eq0.true)
 
 pub returns : goal.returns
 returns c =

@@ -1,4 +1,4 @@
-use Prim.Native.Nat.{suc, ◌-◌}
+use Prim.Native.Nat.{suc, ◌-◌, ◌*◌}
 use mathlib.Core.Path.{◌≡◌, sym, ◌∙◌, ap}
 use native.Mathlib.Omega.{arith}
 use borrow.Author.Tests.{le-leb, lt-leb}
@@ -12,7 +12,7 @@ use Rattle.field.proofs.balances.balanced_mod.Goals as goal
 
 pub returns-then-c-p : goal.returns-then-c-p
 unfolding balanced_value
-returns-then-c-p c = rw (le-leb _ _ c.if-c-p.true) (to_z_pos w32 c.args.c (omega arith))
+returns-then-c-p c = rw (le-leb (2 * c.args.c) c.args.p (omega arith)) (to_z_pos w32 c.args.c (omega arith))
 
 pub returns-else-c-p : goal.returns-else-c-p
 unfolding balanced_value
@@ -22,4 +22,4 @@ returns-else-c-p c =
     -- c − p as the code computes it
     let difference : pos 0 -ℤ to_z w32 (p - x) ≡ negsuc (p - suc x) = ap (λ (z : ℤ). pos 0 -ℤ z) (to_z_pos w32 (p - x) (omega arith)) ∙ negated _ _ c.requires.1 in
     let fits : SFits w32 (pos 0 -ℤ to_z w32 (p - x)) = rw difference (record { sfits = omega arith }) in
-    rw (lt-leb _ _ c.if-c-p.false) (to_z-of_z w32 _ fits ∙ difference ∙ sym (subtracted _ _ c.requires.1))
+    rw (lt-leb (2 * x) p (omega arith)) (to_z-of_z w32 _ fits ∙ difference ∙ sym (subtracted _ _ c.requires.1))

@@ -11,12 +11,12 @@ use Rattle.poly.specs.Profiles.{measure_of}
 use Rattle.poly.proofs.Measures.{chunk_word, largest_more}
 use Rattle.poly.proofs.profile.measure.Goals as goal
 
-pub loop-record-preserved : goal.loop-record-preserved
-loop-record-preserved c =
-    let l = c.loop-record.invariant in
+pub loop-word-preserved : goal.loop-word-preserved
+loop-word-preserved c =
+    let l = c.loop-word.invariant in
     let s = c.args.s.now in
-    let i = c.loop-record.record-index in
-    let within : i < records s = omega (arith, c.loop-record-test.true, c.as_chunks.ensures.front_len) in
+    let i = c.loop-word.word-index in
+    let within : i < records s = omega (arith, c.loop-word-test.true, c.as_chunks.ensures.front_len) in
     let word : get_or (get_or c.as_chunks.result.0.now i []) 0 0 ≡ word_at s i =
     ap (λ (rs : List (List ℕ)). get_or (get_or rs i []) 0 0) c.as_chunks.ensures.front ∙ chunk_word s (records s) i within (omega arith) in
     let of_word = λ (w : (Letters 4).Mon → ℕ). ap (λ (m : ℕ). w (exponents_of 16 4 m)) word in
@@ -37,9 +37,9 @@ loop-record-preserved c =
 pub returns : goal.returns
 unfolding measure_of poly_of
 returns c =
-    let l = c.loop-record.invariant in
+    let l = c.loop-word.invariant in
     let s = c.args.s.now in
-    let all : c.loop-record.record-index ≡ records s = omega (arith, c.loop-record-test.false, c.loop-record.auto.record-index-end, c.as_chunks.ensures.front_len) in
+    let all : c.loop-word.word-index ≡ records s = omega (arith, c.loop-word-test.false, c.loop-word.auto.word-index-end, c.as_chunks.ensures.front_len) in
     let of_all = λ (w : (Letters 4).Mon → ℕ). ap (λ (n : ℕ). largest w (terms base s 0 n)) all in
     λ d. record {
       terms = c.as_chunks.ensures.front_len d;
