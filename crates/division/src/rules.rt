@@ -3,13 +3,12 @@ ghost use Rattle.std.specs.Prelude.{◌≡◌};
 ghost use Rattle.refusals.specs.Reports.{none, first_or};
 ghost use Rattle.division.specs.Division.{last_rules};
 
-use refusals::report::{Report, done, or_else};
+use refusals::report::{Report, or_else};
 use refusals::rules::{divisor_rule, work_rule};
 
 // 7 and 8: a divisor that is zero, and too short a work array.
 pub fn last_rules(g: &[u64], q: &[u64], work: &[u64]) -> Report
     ensures { result ≡ first_or (last_rules g.now q.now work.now) none }
 {
-    let room = or_else(work_rule(4 * (q.len() / 2), work), done(0, 0));
-    or_else(divisor_rule(g), room)
+    or_else(divisor_rule(g), work_rule(4 * (q.len() / 2), work))
 }

@@ -12,7 +12,7 @@ use lib.Dec.{eqb}
 use lib.ListN.{length, take, replicate, length-replicate}
 use Rattle.std.specs.Prelude.{Option, Result, Ok, Err, IfOk}
 use Rattle.std.specs.Option.{option_map}
-use Rattle.std.specs.Result.{result_ok}
+use Rattle.std.specs.Result.{result_ok, result_map_both}
 use Rattle.std.proofs.lemmas.Result.{IfOk-weaker}
 use Rattle.reasons.specs.Reasons.{number_of, reply_of}
 use Rattle.reasons.specs.declared.Reason.{Reason}
@@ -27,10 +27,10 @@ use Rattle.poly.proofs.Readings.{coded_poly, coded_decoded}
 use Rattle.poly.proofs.Rooms.{all_cleared}
 use Rattle.refusals.specs.Reports.{done, refusal}
 use Rattle.refusals.specs.declared.report.Report.{Report}
-use Rattle.calls.specs.Outcomes.{Outcome, outcome, told, holding, ended}
+use Rattle.calls.specs.Outcomes.{Outcome, outcome, holding, ended}
 use Rattle.calls.specs.Endings.{left, told_of}
-use Rattle.calls.proofs.Rooms.{Written, written_count, kept-holds, holding-none}
-use Rattle.calls.proofs.Told.{left_stopped, told-reason}
+use Rattle.calls.proofs.Rooms.{Written, written_count, kept-holds, holding-none, ended_by}
+use Rattle.calls.proofs.Told.{count, left-kept, told-kept}
 use Rattle.judges.specs.Plans.{is_test, judges_by}
 use Rattle.judges.specs.Judges.{walk_by}
 use Rattle.judges.specs.declared.Plan.{Plan}
@@ -43,26 +43,15 @@ use Rattle.quotients.specs.Quotients.{walked, test_walk, tested}
 read_written : {f : Poly (Letters 4)} (s : List ℕ) (n : ℕ) → n ≤ records s → Monomial (span s 0 n) → decoded_poly base (span s 0 n) ≡ f → Written f s n
 read_written s n h a e = record { within = h; words = ap (coded_poly base) (sym e) ∙ coded_decoded base (span s 0 n) a }
 
--- a reason is no reply of a walk that came to its end
-some_number : (reason : Reason) → number_of reason ≡ 0 → ⊥
-some_number reason z = omega (arith, number_positive reason)
+-- no reason is the reply 0
+reasoned : (reason : Reason) → number_of reason ≡ 0 → ⊥
+reasoned reason z = omega (arith, number_positive reason)
 
--- a room that was left by the end of a walk
-left_holds : (end : Result State Reason) (terms : State → ℕ) (f : Poly (Letters 4)) (s₀ s : List ℕ) → length s ≡ length s₀ →
-    IfOk end (λ t. Written f s (terms t)) → left (option_map terms (result_ok end)) s ≡ holding (reply_of end) f s₀
-left_holds (Ok t) terms f s₀ s same W = kept-holds 0 f s₀ s _ (terms t) same (λ z. W) refl
-left_holds (Err reason) terms f s₀ s same W =
-    kept-holds (number_of reason) f s₀ s _ 0 same (λ z. absurd (some_number reason z)) (left_stopped reason 0 s)
-
--- the terms that a walk has written
-abbrev pub counts : Result State Reason → Result (ℕ × ℕ) Reason
-counts (Ok t) = Ok (t.quotient, t.remainder)
-counts (Err reason) = Err reason
-
-told_end : (end : Result State Reason) (f g : Poly (Letters 4)) → IfOk end (λ t. (length f ≡ t.quotient) × (length g ≡ t.remainder)) →
-    told_of (counts end) ≡ told (reply_of end) (length f) (length g)
-told_end (Ok t) f g e = λ d. told 0 (sym e.0 d) (sym e.1 d)
-told_end (Err reason) f g e = told-reason reason (length f) (length g)
+-- what a walk that came to its end has written, where its reply is 0
+written_at : (end : Result State Reason) (terms : State → ℕ) (f : Poly (Letters 4)) (s : List ℕ) →
+    IfOk end (λ t. Written f s (terms t)) → reply_of end ≡ 0 → Written f s (count terms end)
+written_at (Ok t) terms f s W z = W
+written_at (Err reason) terms f s W z = absurd (reasoned reason z)
 
 module _
     {plan : Plan} (q r w : List ℕ) {q₁ q₂ r₂ w₂ : List ℕ} {end : Result State Reason} (clear : q₁ ≡ take 0 q ++ replicate (length q - 0) 0)
@@ -84,33 +73,29 @@ module _
         read_written r₂ t.remainder W.remainder_within W.remainder_monomials
         (sym (append-nil (decoded_poly base (span r₂ 0 t.remainder))) ∙ ap (λ (x : Walked (Letters 4)). x.remainder) (sym W.ends))
 
-    by_end : (P : State → Type 0) → ((t : State) → Wrote plan q₂ r₂ t → P t) → IfOk end P
-    by_end P h = IfOk-weaker end (λ t. Wrote plan q₂ r₂ t) P h N.wrote
+    by_end : (terms : State → ℕ) (h : Poly (Letters 4)) (s : List ℕ) → ((t : State) → Wrote plan q₂ r₂ t → Written h s (terms t)) →
+        reply_of end ≡ 0 → Written h s (count terms end)
+    by_end terms h s e =
+        written_at end terms h s (IfOk-weaker end (λ t. Wrote plan q₂ r₂ t) (λ t. Written h s (terms t)) e N.wrote)
 
     pub rooms_left : (m n : Option ℕ) (e : Result (ℕ × ℕ) Reason) {t : Report} {q₃ r₃ w₃ : List ℕ} →
         w₃ ≡ take 0 w₂ ++ replicate (length w₂ - 0) 0 →
         q₃ ≡ left m q₂ → r₃ ≡ left n r₂ → t ≡ told_of e →
-        m ≡ option_map (λ (s : State). s.quotient) (result_ok end) → n ≡ option_map (λ (s : State). s.remainder) (result_ok end) → e ≡ counts end →
+        m ≡ option_map (λ (s : State). s.quotient) (result_ok end) → n ≡ option_map (λ (s : State). s.remainder) (result_ok end) →
+        e ≡ result_map_both (λ (s : State). (s.quotient, s.remainder)) (λ reason. reason) end →
         outcome t q₃ r₃ w₃ ≡ walked plan q r w
-    rooms_left m n e work quotient remainder report em en ee =
-        let first =
-        left_holds end (λ t. t.quotient) on.quotient q q₂ (N.quotient_long ∙ cleared-long)
-        (by_end (λ t. Written on.quotient q₂ t.quotient) quotient_written)
-        in
-        let second =
-        left_holds end (λ t. t.remainder) on.remainder r r₂ N.remainder_long
-        (by_end (λ t. Written on.remainder r₂ t.remainder) remainder_written)
-        in
-        let tells =
-        told_end end on.quotient on.remainder
-        (by_end (λ t. (length on.quotient ≡ t.quotient) × (length on.remainder ≡ t.remainder))
-        (λ t W. (written_count (quotient_written t W), written_count (remainder_written t W))))
-        in
-        (λ d. outcome
-        ((report ∙ ap told_of ee ∙ tells) d)
-        ((quotient ∙ ap (λ (x : Option ℕ). left x q₂) em ∙ first) d)
-        ((remainder ∙ ap (λ (x : Option ℕ). left x r₂) en ∙ second) d)
-        (all_cleared w w₂ _ N.work_long work d))
+    rooms_left m n e {t} {q₃} {r₃} {w₃} work quotient remainder report em en ee =
+        let first = by_end (λ s. s.quotient) on.quotient q₂ quotient_written in
+        let second = by_end (λ s. s.remainder) on.remainder r₂ remainder_written in
+        ended_by (reply_of end) on.quotient on.remainder q r w t q₃ r₃ w₃ (count (λ (s : State). s.quotient) end) (count (λ (s : State). s.remainder) end)
+        (report ∙ ap told_of ee ∙ told-kept (λ (s : State). s.quotient) (λ (s : State). s.remainder) end)
+        (λ z. written_count (first z))
+        (λ z. written_count (second z))
+        (kept-holds (reply_of end) on.quotient q q₂ q₃ _ (N.quotient_long ∙ cleared-long) first
+        (quotient ∙ ap (λ (x : Option ℕ). left x q₂) em ∙ left-kept (λ (s : State). s.quotient) end q₂))
+        (kept-holds (reply_of end) on.remainder r r₂ r₃ _ N.remainder_long second
+        (remainder ∙ ap (λ (x : Option ℕ). left x r₂) en ∙ left-kept (λ (s : State). s.remainder) end r₂))
+        (all_cleared w w₂ w₃ N.work_long work)
         ∙ ap (λ (x : ℕ). ended x on.quotient on.remainder q r w) (sym N.replies)
 
 -- an empty room holds no terms, so that none are told
