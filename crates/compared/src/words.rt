@@ -7,7 +7,7 @@ use refusals::report::Report;
 // What every word of an array is when it is lent.
 const DIRT: u64 = 0xdddddddddddddddd;
 
-// An array to lend, long enough for every row.
+// An array to lend, long enough for every row: memory is fixed.
 pub fn lent_words() -> [u64; 16384]
     ensures { AsLent 16384 result }
 {

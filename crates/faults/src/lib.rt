@@ -7,8 +7,8 @@ ghost use Rattle.faults.specs.Faults.{guard_at, order_at, bad_coef_at, faults_of
 
 use numbers::choose;
 
-// The first term with each kind of fault; the number of terms where there is none. No Option: a place is chosen without a branch, once
-// for each term.
+// The first term with each kind of fault; the number of terms where there is none. No Option, which was tried and took twice as long for
+// each term: a number is chosen without a branch.
 #[derive(Clone, Copy)]
 pub struct Faults {
     pub guard: u64,

@@ -12,7 +12,7 @@ pub use inverses::inverse;
 use moduli::{add_mod, is_modulus, mul_mod};
 use reasons::Reason;
 
-// What an operation answers: reply 0 and the value, or the number of a refusal and 0.
+// What an operation answers: reply 0 and the value, or the number of a refusal and 0. The struct is C's, which has no Result.
 #[repr(C)]
 #[derive(Clone, Copy)]
 pub struct Value {

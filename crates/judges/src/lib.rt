@@ -38,7 +38,7 @@ pub struct Plan<'a> {
     pub ghost ready: { Ready p f.now g.now inverse judge } by { Prim.hlevel (props, Prime-prop) },
 }
 
-// The plan of a call, for inputs that were found good.
+// The plan of a call, for inputs that were found good. Its parameters are those that docs/CLAIMS.md names it with.
 pub fn prepare<'a>(
     p: u64,
     f: &'a [u64],

@@ -100,7 +100,7 @@ fn front_at(s: &[u64], i: usize) -> Front
     }
 }
 
-// c, or with `minus` −c.
+// c, or with `minus` −c. It is asked by a flag and no closure, as `signed_coef` and `merge`'s contract have it.
 fn signed_coef(p: u64, minus: bool, c: u64) -> u64
     requires { c < p }
     ensures { result ≡ signed_coef p minus c }

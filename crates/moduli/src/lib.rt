@@ -1,4 +1,5 @@
 // Numbers modulo a prime p: which p are taken, and the operations that loops call, for a modulus and operands that are known to be good.
+// p is a number and no type of its own: `neg_mod` and `mul_mod`, which docs/CLAIMS.md names, take any p, and a type would ask for more.
 #![tactic(auto)]
 
 ghost use Rattle.std.specs.Prelude.{◌≡◌, ◌≤◌, ◌+◌, ◌-◌, ◌%◌, ◌<◌, ◌*◌};
@@ -19,7 +20,7 @@ pub fn is_modulus(p: u64) -> bool
     p <= LIMIT && is_prime(p as u32)
 }
 
-// Reply 0 where p is a modulus, else 1.
+// Reply 0 where p is a modulus, else 1: a number, as RULES Reading 2 and `modulus-told` have it.
 #[tactic(auto, unfolding(crate::specs::Moduli::modulus_of))]
 pub fn modulus(p: u64) -> u64
     ensures { result ≡ modulus_of p }

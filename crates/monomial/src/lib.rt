@@ -18,7 +18,7 @@ pub const LARGEST: u64 = 32767;
 // The guard bit of each field.
 const GUARDS: u64 = 0x8000_8000_8000_8000;
 
-// What unpacking answers: reply 0 and the exponents of x, y, z and t, or the number of a refusal and zeros.
+// What unpacking answers: reply 0 and the exponents of x, y, z and t, or the number of a refusal and zeros. The struct is C's.
 #[repr(C)]
 #[derive(Clone, Copy)]
 pub struct Exponents {

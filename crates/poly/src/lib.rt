@@ -1,4 +1,5 @@
-// Polynomials in memory: records of words, rooms, keys, the largest exponents.
+// Polynomials in memory: records of words, rooms, keys, the largest exponents. A record is two words of a slice that is lent
+// (RULES Form 4), and read by its place, as `word_at` and `coef_at` have it.
 #![tactic(auto)]
 
 pub mod keys;

@@ -6,7 +6,8 @@ ghost use Rattle.refusals.specs.Reports.{refusal, done, or_else};
 use numbers::choose;
 use reasons::Reason;
 
-// The number, the operand that it blames, a term index, and the terms of the first and the second output.
+// The number, the operand that it blames, a term index, and the terms of the first and the second output. The struct is C's, so that a
+// reply is a number in it; `Reason` names the numbers.
 #[repr(C)]
 #[derive(Clone, Copy, Debug, Default, PartialEq, Eq)]
 pub struct Report {

@@ -6,6 +6,7 @@ use crate::check::check;
 use poly::profile::{Profile, measure};
 use refusals::report::Report;
 
+// A report, and a profile beside it. The struct is C's, which has no Result.
 #[repr(C)]
 #[derive(Clone, Copy, Debug, PartialEq, Eq)]
 pub struct Profiled {

@@ -6,7 +6,7 @@ ghost use Rattle.services.specs.Services.{within, starts, ends, in_order, run_of
 use dues::Due;
 use refusals::rules::INPUT_TERMS;
 
-// A part of a slice, from one word up to another.
+// A part of a slice, from one word up to another. The struct is C's, so that no part is the empty one at the front.
 #[repr(C)]
 #[derive(Clone, Copy, Debug, Default, PartialEq, Eq)]
 pub struct Part {
