@@ -10,9 +10,7 @@ mod run;
 mod tables;
 mod text;
 
-use std::io;
-
-fn main(rt: HostRuntime) -> io::Result<()> {
-    let tally = run::run_all(&rt)?;
-    println!(rt; "{tally}")
+fn main() {
+    let tally = run::run_all();
+    text::print(tally);
 }

@@ -12,17 +12,12 @@ pub const SEED: u64 = 20261115;
 
 pub const DRAWS: usize = 400;
 
-// Lehmer's generator.
+// How the drawing stands: the modulus, and where Lehmer's generator is.
 #[derive(Drop)]
-struct Lehmer(u64);
-
-impl Lehmer {
-    fn next(&mut self) -> u64
-        ensures { result < 2147483647 }
-    {
-        self.0 = (self.0 % 2147483647) * 48271 % 2147483647;
-        self.0
-    }
+struct Drawing {
+    p: u64,
+    seed: u64,
+    ghost above_one: { 1 < p },
 }
 
 // How many of the polynomials drawn give quotient 1 and remainder zero.
@@ -30,25 +25,45 @@ pub fn draws(p: u64) -> usize
     requires { 1 < p }
     ensures { result ≤ 400 }
 {
-    let mut lehmer = Lehmer(SEED);
-    (0..DRAWS)
-        .filter(
-            |_|
-                requires { 1 < p }
-            { draw(p, &mut lehmer) },
-        )
-        .count()
+    let mut drawing = Drawing { p, seed: SEED };
+    (0..DRAWS).filter(|_| drawing.draw()).count()
 }
 
-// Whether one polynomial more does.
-fn draw(p: u64, lehmer: &mut Lehmer) -> bool
-    requires { 1 < p }
-{
-    let mut words = [0; 24];
-    let terms = 1 + (lehmer.next() % 12) as usize;
-    let f = &mut words[..2 * terms];
-    fill(p, lehmer, f);
-    by_itself(p, f)
+impl Drawing {
+    fn next(&mut self) -> u64
+        ensures below { result < 2147483647 }
+        ensures same { self.new.p ≡ self.old.p }
+    {
+        self.seed = (self.seed % 2147483647) * 48271 % 2147483647;
+        self.seed
+    }
+
+    // Whether one polynomial more does.
+    fn draw(&mut self) -> bool {
+        let mut words = [0; 24];
+        let terms = 1 + (self.next() % 12) as usize;
+        let f = &mut words[..2 * terms];
+        self.fill(f);
+        by_itself(self.p, f)
+    }
+
+    // From 1 to p − 1.
+    fn coefficient(&mut self) -> u64
+        ensures { (0 < result) × (result < self.old.p) }
+    {
+        1 + self.next() % (self.p - 1)
+    }
+
+    // Fills an array with a polynomial. From the last term to the first the exponents of x and y, taken as one number, grow;
+    // coefficients are 1 to p − 1.
+    fn fill(&mut self, f: &mut [u64]) {
+        let mut xy = 0;
+        for term in f.chunks_exact_mut(2).rev() {
+            xy = grown(xy, self.next());
+            term[0] = word(xy, self.next());
+            term[1] = self.coefficient();
+        }
+    }
 }
 
 // Whether f by itself, in a room of 1 term, is 1 with remainder zero.
@@ -56,19 +71,6 @@ fn by_itself(p: u64, f: &[u64]) -> bool
     ensures { result ≡ right (division_row p f.now f.now 1 2 4 (done 1 0) (0 ∷ 1 ∷ []) []) }
 {
     division_tried(p, f, f, 1, 2, 4, done(1, 0), ONE.0, NIL.0).right
-}
-
-// Fills an array with a polynomial. From the last term to the first the exponents of x and y, taken as one number, grow; coefficients
-// are 1 to p − 1.
-fn fill(p: u64, lehmer: &mut Lehmer, f: &mut [u64])
-    requires { 1 < p }
-{
-    let mut xy = 0;
-    for term in f.chunks_exact_mut(2).rev() {
-        xy = grown(xy, lehmer.next());
-        term[0] = word(xy, lehmer.next());
-        term[1] = coefficient(p, lehmer.next());
-    }
 }
 
 // Twelve steps stay below 2^30, where x and y have fifteen bits each.
@@ -84,14 +86,6 @@ fn step(s: u64) -> u64
     ensures { result < 80000000 }
 {
     if s % 2 == 0 { s % 1000 } else { s % 80000000 }
-}
-
-// From 1 to p − 1.
-fn coefficient(p: u64, s: u64) -> u64
-    requires { 1 < p }
-    ensures { (0 < result) × (result < p) }
-{
-    1 + s % (p - 1)
 }
 
 // x and y from one number, and z and t from another.

@@ -1,11 +1,12 @@
 // Every case of the sheet, tried and printed.
-ghost use Rattle.std.specs.Prelude.{◌≤◌, ◌≡◌, length, IfOk};
+ghost use Rattle.std.specs.Prelude.{◌≤◌, ◌≡◌, length};
 ghost use Rattle.sheet.specs.Cases.{AllFit};
 
 use crate::cases::Case;
 use crate::lines::Line;
 use crate::tables::SHEET;
-use std::{fmt, io};
+use crate::text::print;
+use std::fmt;
 
 // How many cases were run, and how many of them are as the sheet says.
 #[derive(Clone, Copy)]
@@ -15,29 +16,29 @@ pub struct Tally {
 }
 
 // Every case of the sheet.
-pub fn run_all(rt: &impl Print) -> io::Result<Tally>
-    ensures { IfOk result (λ t. (t.cases ≡ 35) × (t.right ≤ t.cases)) }
+pub fn run_all() -> Tally
+    ensures { (result.cases ≡ 35) × (result.right ≤ result.cases) }
 {
-    run(rt, &SHEET)
+    run(&SHEET)
 }
 
 // Cases in their order, a line each.
-fn run(rt: &impl Print, cases: &[Case]) -> io::Result<Tally>
+fn run(cases: &[Case]) -> Tally
     requires { AllFit cases.now }
-    ensures { IfOk result (λ t. (t.cases ≡ length cases.now) × (t.right ≤ t.cases)) }
+    ensures { (result.cases ≡ length cases.now) × (result.right ≤ result.cases) }
 {
     let mut right = 0;
     for case in cases {
         let found = case.tried();
-        rt.println(Line { case: *case, found })?;
+        print(Line { case: *case, found });
         if found.right() {
             right += 1;
         }
     }
-    Ok(Tally {
+    Tally {
         cases: cases.len(),
         right,
-    })
+    }
 }
 
 impl fmt::Display for Tally {

@@ -2,6 +2,7 @@
 use monomial::exponent;
 use reasons::Reason;
 use std::fmt;
+use std::fmt::Write;
 
 // The polynomial in an array, up to the zero words behind its terms. The zero polynomial has no term, and is written 0.
 #[derive(Clone, Copy)]
@@ -17,6 +18,23 @@ struct Term {
 // The words of an array, in hexadecimal.
 #[derive(Clone, Copy)]
 pub struct Words<'a>(pub &'a [u64]);
+
+// Standard output, by the kit's `io`, which rests on one C function that is assumed: `println!` would rest on two more. What could not
+// be written is passed over.
+#[derive(Drop)]
+struct Stdout;
+
+impl Write for Stdout {
+    fn write_str(&mut self, s: &str) -> fmt::Result {
+        io::write_all(1, s.as_bytes());
+        Ok(())
+    }
+}
+
+// Prints a line.
+pub fn print<D: fmt::Display + Drop>(line: D) {
+    let _ = Stdout.writeln(line);
+}
 
 // A reply with its meaning.
 #[derive(Clone, Copy)]

@@ -153,7 +153,7 @@ pub fn build(work: &mut [u64], count: usize)
     }
 }
 
-// The greater of two records.
+// The greater of two records, by their keys alone: a derived order would compare the tags too.
 fn better(a: Node, b: Node) -> Node
     ensures { Greater a b result }
 {

@@ -10,4 +10,4 @@ one_of cases i d h all =
     record { passed = All-get_or (λ case. fits case ≡ true) cases i d h (AllPass-from_list_all fits cases all.passed) }
 
 pub tried-found-requires : goal.tried-found-requires
-tried-found-requires g c = one_of c.args.cases.now c.loop-case.case-index _ c.loop-case-test.true c.requires
+tried-found-requires c = one_of c.args.cases.now c.loop-case.case-index _ c.loop-case-test.true c.requires

@@ -3,4 +3,4 @@ use Rattle.std.proofs.Common.{◌≤◌}
 use Rattle.sheet.proofs.run.run.Given as goal
 
 abbrev pub invariant-loop-case : goal.invariant-loop-case
-invariant-loop-case g l = l.right ≤ l.case-index
+invariant-loop-case l = l.right ≤ l.case-index

@@ -1,6 +1,6 @@
--- `sheet::random::fill` meets its contract.
+-- `sheet::random::Drawing::fill` meets its contract.
 use Rattle.std.proofs.Common.{◌<◌, ◌≡◌}
-use Rattle.sheet.proofs.random.fill.Given as goal
+use Rattle.sheet.proofs.random.Drawing.fill.Given as goal
 
 abbrev pub invariant-loop-term : goal.invariant-loop-term
 invariant-loop-term l =
