@@ -20,7 +20,7 @@ pub fn same_report(a: Report, b: Report) -> bool
     a == b
 }
 
-// What follows the terms in an array after a reply: refusals 1 to 8 leave it as it was, and all others zeros.
+// What follows the terms in an array after a reply, by its number in C's report: refusals 1 to 8 leave it as it was, all others zeros.
 pub fn rest_of(number: u64) -> u64
     ensures { result ≡ rest_of number }
 {

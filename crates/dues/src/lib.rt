@@ -11,7 +11,7 @@ use refusals::report::{Report, or_else};
 use refusals::rules::{at_term, long_rule, modulus_rule, odd_rule};
 
 // The first refusal of each kind, 2 to 6, that is due of the slices lent so far.
-#[derive(Clone, Copy, Debug, Default, PartialEq, Eq)]
+#[derive(Clone, Copy, Default)]
 pub struct Due {
     pub odd: Report,
     pub long: Report,

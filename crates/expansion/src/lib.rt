@@ -43,8 +43,7 @@ pub fn expand(p: u64, rows: &[u64], cols: &[u64], room: &mut [u64], work: &mut [
     fill(p, rows, cols, room, work)
 }
 
-// Writes what waits in the tree into the room, one monomial a turn, and answers the number of terms: one more than the room holds
-// where there are more.
+// Writes what waits in the tree into the room, one monomial a turn, and answers the number of terms as `expand` does.
 fn fill(p: u64, rows: &[u64], cols: &[u64], room: &mut [u64], work: &mut [u64]) -> usize
     requires within { (0 < p) × (p ≤ limit) × (0 < records rows.now) }
     requires valid { (Valid p cols.now) × (Sides rows.now cols.now p) }

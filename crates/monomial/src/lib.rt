@@ -50,7 +50,7 @@ pub fn is_monomial(word: u64) -> bool
     word & GUARDS == 0
 }
 
-// The exponent of a letter, 0 for x to 3 for t.
+// The exponent of a letter, 0 for x to 3 for t; 0 for a letter that is not there (RULES Reading 7).
 pub fn exponent(word: u64, letter: u64) -> u64
     ensures { result ≡ exponent_of base word letter }
 {

@@ -8,7 +8,7 @@ use monomial::{LETTERS, exponent, word};
 
 // The term count, the largest exponents of x, y, z and t, and the largest total degree.
 #[repr(C)]
-#[derive(Clone, Copy, Debug, Default, PartialEq, Eq)]
+#[derive(Clone, Copy, Default)]
 pub struct Profile {
     pub terms: u64,
     pub exponents: [u64; LETTERS],

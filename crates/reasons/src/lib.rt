@@ -9,18 +9,18 @@ use std::fmt;
 
 #[derive(Clone, Copy, Debug, PartialEq, Eq)]
 pub enum Reason {
-    BadModulus,
-    OddLength,
-    TooLong,
-    BadMonomial,
-    BadOrder,
-    BadCoefficient,
-    ZeroDivisor,
-    ShortWork,
-    BigExponent,
-    NoRoom,
-    NoRemainderRoom,
-    NotDivisible,
+    BadModulus = 1,
+    OddLength = 2,
+    TooLong = 3,
+    BadMonomial = 4,
+    BadOrder = 5,
+    BadCoefficient = 6,
+    ZeroDivisor = 7,
+    ShortWork = 8,
+    BigExponent = 9,
+    NoRoom = 10,
+    NoRemainderRoom = 11,
+    NotDivisible = 12,
 }
 
 // A number that is no reply without a result.
@@ -32,20 +32,7 @@ impl Reason {
     pub fn number(self) -> u64
         ensures { result ≡ number_of self }
     {
-        match self {
-            Reason::BadModulus => 1,
-            Reason::OddLength => 2,
-            Reason::TooLong => 3,
-            Reason::BadMonomial => 4,
-            Reason::BadOrder => 5,
-            Reason::BadCoefficient => 6,
-            Reason::ZeroDivisor => 7,
-            Reason::ShortWork => 8,
-            Reason::BigExponent => 9,
-            Reason::NoRoom => 10,
-            Reason::NoRemainderRoom => 11,
-            Reason::NotDivisible => 12,
-        }
+        self as u64
     }
 }
 

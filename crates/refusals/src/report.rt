@@ -7,9 +7,9 @@ use numbers::choose;
 use reasons::Reason;
 
 // The number, the operand that it blames, a term index, and the terms of the first and the second output. The struct is C's, so that a
-// reply is a number in it; `Reason` names the numbers.
+// reply is a number in it; `Reason` names the numbers. An operand is a place in a call and no kind: RULES Report counts them.
 #[repr(C)]
-#[derive(Clone, Copy, Debug, Default, PartialEq, Eq)]
+#[derive(Clone, Copy, Default, PartialEq, Eq)]
 pub struct Report {
     pub number: u64,
     pub operand: u64,

@@ -1,4 +1,5 @@
-// The refusals 1 to 8. A call folds those that it has with `or_else`, in the order in which they win.
+// The refusals 1 to 8. A call folds those that it has with `or_else`, in the order in which they win. A rule that is not due answers a
+// report that is done, and no Option: `or_else` says why.
 #![tactic(auto, unfolding(crate::specs::Rules::modulus_rule, crate::specs::Rules::odd_rule, crate::specs::Rules::long_rule, crate::specs::Rules::divisor_rule, crate::specs::Rules::work_rule))]
 
 ghost use Rattle.std.specs.Prelude.{◌≡◌, ◌<◌};
@@ -24,7 +25,7 @@ pub fn unless(passed: bool, reason: Reason, operand: u64) -> Report
     }
 }
 
-// A refusal at a term, where there is such a term.
+// A refusal at a term, where there is such a term: `faults` gives the number of terms for none.
 pub fn at_term(reason: Reason, operand: u64, index: u64, count: u64) -> Report
     ensures { result ≡ at_term (number_of reason) operand index count }
 {

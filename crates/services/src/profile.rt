@@ -8,7 +8,7 @@ use refusals::report::Report;
 
 // A report, and a profile beside it. The struct is C's, which has no Result.
 #[repr(C)]
-#[derive(Clone, Copy, Debug, PartialEq, Eq)]
+#[derive(Clone, Copy)]
 pub struct Profiled {
     pub report: Report,
     pub profile: Profile,

@@ -8,7 +8,7 @@ use refusals::rules::INPUT_TERMS;
 
 // A part of a slice, from one word up to another. The struct is C's, so that no part is the empty one at the front.
 #[repr(C)]
-#[derive(Clone, Copy, Debug, Default, PartialEq, Eq)]
+#[derive(Clone, Copy, Default)]
 pub struct Part {
     pub start: usize,
     pub end: usize,
@@ -47,7 +47,7 @@ fn in_order(s: &[u64]) -> bool
     due.odd.is_done() && due.long.is_done() && due.guard.is_done() && due.order.is_done()
 }
 
-// The first term with the power.
+// The first term with the power. This search and the next are a line each, so that none takes the test as a closure.
 fn first_with(s: &[u64], power: u64) -> Option<usize>
     ensures { result ≡ within (starts s.now power) (records s.now) }
 {

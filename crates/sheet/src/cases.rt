@@ -35,7 +35,8 @@ pub enum Case<'a> {
     Divisions(Row, Modulus),
 }
 
-// What a call has to answer: reply 0 with the terms of its outputs, or a refusal, and the operand that it blames.
+// What a call has to answer: reply 0 with the terms of its outputs, or a refusal, and the operand that it blames. In a table these names
+// say more than the Ok and Err of two pairs.
 #[derive(Clone, Copy)]
 pub enum Says {
     Done(u64, u64),

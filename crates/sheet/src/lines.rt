@@ -19,6 +19,7 @@ impl fmt::Display for Line<'_> {
             (_, Found::Draws(right)) => {
                 write!(f, " {right} times {} quotient 1, remainder 0", Reply(0))?
             }
+            // its words follow, and no reply
             (Case::QuotientArray(..), Found::Reply(_)) => (),
             (_, Found::Reply(tried)) => write!(f, " {}", Reply(tried.number))?,
         }

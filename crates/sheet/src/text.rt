@@ -19,23 +19,6 @@ struct Term {
 #[derive(Clone, Copy)]
 pub struct Words<'a>(pub &'a [u64]);
 
-// Standard output, by the kit's `io`, which rests on one C function that is assumed: `println!` would rest on two more. What could not
-// be written is passed over.
-#[derive(Drop)]
-struct Stdout;
-
-impl Write for Stdout {
-    fn write_str(&mut self, s: &str) -> fmt::Result {
-        io::write_all(1, s.as_bytes());
-        Ok(())
-    }
-}
-
-// Prints a line.
-pub fn print<D: fmt::Display + Drop>(line: D) {
-    let _ = Stdout.writeln(line);
-}
-
 // A reply with its meaning.
 #[derive(Clone, Copy)]
 pub struct Reply(pub u64);
@@ -95,4 +78,21 @@ impl fmt::Display for Reply {
             Err(unknown) => write!(f, "{number} ({unknown})"),
         }
     }
+}
+
+// Standard output, by the kit's `io`, which rests on one C function that is assumed: `println!` would rest on two more. What could not
+// be written is passed over.
+#[derive(Drop)]
+struct Stdout;
+
+impl Write for Stdout {
+    fn write_str(&mut self, s: &str) -> fmt::Result {
+        io::write_all(1, s.as_bytes());
+        Ok(())
+    }
+}
+
+// Prints a line.
+pub fn print<D: fmt::Display + Drop>(line: D) {
+    let _ = Stdout.writeln(line);
 }

@@ -27,7 +27,7 @@ pub fn difference(p: u64, a: &[u64], b: &[u64], room: &mut [u64]) -> Report
     combine(p, a, b, true, room)
 }
 
-// The sum, or with `minus` the difference. Room is counted after terms have cancelled.
+// The sum, or with `minus`, which `merge` takes, the difference. Room is counted after terms have cancelled.
 fn combine(p: u64, a: &[u64], b: &[u64], minus: bool, room: &mut [u64]) -> Report
     ensures { outcome result room.new [] [] ≡ combined_of p minus a.now b.now room.old }
 {

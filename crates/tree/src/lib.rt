@@ -1,7 +1,7 @@
 // A winner tree in the work array, four words a row: it finds the greatest of the products for which the rows wait.
 // A climb touches one record a level, and nothing moves; a zeroed array is a tree in which nothing waits.
 // Rows, columns and work are three arguments and no struct: a division writes its rows, the quotient room, between two calls, so that
-// a struct would be made anew at each.
+// a struct would be made anew at each. So are work and its number of rows, which grows in between.
 #![tactic(auto)]
 
 ghost use Rattle.std.specs.Prelude.{◌≡◌, ℕ, ◌+◌, ◌*◌, ◌-◌, ◌<◌, ◌≤◌, ◌^◌, length};
