@@ -33,6 +33,7 @@ pub fn find_faults(p: u64, s: &[u64]) -> Faults
     Faults { guard, order, coef }
 }
 
+// A term is named by its place, as the loop counts it.
 #[tactic(auto, unfolding(crate::specs::Faults::guard_at))]
 fn guard_at(s: &[u64], i: usize) -> bool
     requires { 2 * i < length s.now }

@@ -1,4 +1,5 @@
-// A tree that grows: its leaves move behind the records of a tree of more rows.
+// A tree that grows: its leaves move behind the records of a tree of more rows. Work and its number of rows are two arguments, as in
+// `tree`.
 #![tactic(auto)]
 
 ghost use Rattle.std.specs.Prelude.{◌*◌, ◌≤◌, length};

@@ -13,7 +13,7 @@ use moduli::{add_mod, neg_mod};
 use poly::keys::{Head, head_at, key_at};
 use tree::take;
 
-// Takes the greatest monomial, whose key is given, out of what remains.
+// Takes the greatest monomial, whose key is given, out of what remains. It is lent what docs/CLAIMS.md names it with, and no plan.
 pub fn take_head(
     p: u64,
     f: &[u64],

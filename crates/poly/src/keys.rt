@@ -12,7 +12,7 @@ pub struct Head {
     pub next: usize,
 }
 
-// The key of a record; 0 behind the last.
+// The key of a record; 0 behind the last. That its word is below 2^63 is a clause of each that reads it, a part of `Valid`.
 pub fn key_at(s: &[u64], i: usize) -> u64
     requires { i < records s.now → word_at s.now i < 2 ^ 63 }
     ensures { result ≡ key_at s.now i }

@@ -16,7 +16,8 @@ use walk::run;
 pub mod division;
 pub mod test;
 
-// Walks in the rooms of a call. The quotient room is cleared before, since its records are the rows of the tree.
+// Walks in the rooms of a call. The quotient room is cleared before, since its records are the rows of the tree. What is asked of rooms
+// and inputs is asked by clauses, as docs/CLAIMS.md has the two calls that come here.
 fn walk_in_rooms(plan: &Plan<'_>, q: &mut [u64], r: &mut [u64], work: &mut [u64]) -> Report
     requires planned { (plan.now.judge.quotients ≡ records q.old) × (plan.now.judge.remainders ≡ records r.old) }
     requires rooms { (records q.old ≤ input_terms) × (4 * records q.old ≤ length work.old) }

@@ -1,5 +1,5 @@
 // The calls on polynomials, each tried on a row. Rooms are given by their terms, and the work array by its words: they are front parts
-// of longer arrays, since their lengths are the row's.
+// of longer arrays, since their lengths are the row's. Limits are clauses of each, as docs/CLAIMS.md has them.
 ghost use Rattle.std.specs.Prelude.{◌*◌, ◌≤◌, ◌≡◌};
 ghost use Rattle.rows.specs.Cases.{trial, product_row, division_row, test_row};
 

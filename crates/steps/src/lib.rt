@@ -22,7 +22,8 @@ pub struct State {
     pub remainder: usize,
 }
 
-// Handles the greatest monomial of what remains, whose key is k, unless a judge stops the walk there.
+// Handles the greatest monomial of what remains, whose key is k, unless a judge stops the walk there. Rooms and work are what a host
+// lends, three arguments in every call.
 pub fn step(
     plan: &Plan<'_>,
     q: &mut [u64],

@@ -11,7 +11,8 @@ use poly::room::clear;
 use reasons::Reason;
 use steps::{State, step};
 
-// The rows of a new tree. It grows with the quotient, so that a room much longer than the quotient costs nothing.
+// The rows of a new tree. It grows with the quotient, so that a room much longer than the quotient costs nothing; the rows are a number
+// beside the work, since memory is lent and fixed.
 const FIRST_ROWS: usize = 16;
 
 // Walks down the dividend as the plan has it: the quotient in q, the remainder in r, or the reason that stopped the walk.
