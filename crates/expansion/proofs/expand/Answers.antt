@@ -11,11 +11,6 @@ use Rattle.expansion.proofs.Expanding.{nothing_filled}
 use Rattle.expansion.proofs.expand.Goals as goal
 use Rattle.expansion.proofs.expand.Goals.{Else-rows-eq0}
 
-pub returns-then-rows-eq0 : goal.returns-then-rows-eq0
-returns-then-rows-eq0 c =
-    let s = c.args in
-    nothing_filled _ s.rows.now s.cols.now _ c.if-rows-eq0.true
-
 -- both factors have terms
 some : (c : Else-rows-eq0) → 0 < records c.args.rows.now
 some c = pos_of_ne-zero c.if-rows-eq0.false

@@ -5,14 +5,14 @@ use lib.ListN.{length}
 use borrow.Author.Rules.{rules}
 use Rattle.refusals.specs.Reports.{none, first_or}
 use Rattle.refusals.specs.Rules.{lent, room_terms}
-use Rattle.refusals.proofs.Reports.{done_number, refused_number}
+use Rattle.refusals.proofs.Reports.{done_number}
 use Rattle.dues.specs.Dues.{with_room}
 use Rattle.dues.specs.declared.Due.{Due}
 use Rattle.refusals.proofs.Accepted.{Shaped, Each}
 use Rattle.calls.specs.Inputs.{two_inputs}
 use Rattle.calls.proofs.Refusals.{asked, Good, rules_good}
 use Rattle.std.specs.Result.{result_map_both}
-use Rattle.sums.proofs.Combining.{combine-ends, combine-refused, combine_goes_on}
+use Rattle.sums.proofs.Combining.{combine-ends, combine_goes_on}
 use Rattle.sums.proofs.combine.Goals as goal
 use Rattle.sums.proofs.combine.Goals.{After-first-due, Else-not-is_done}
 
@@ -25,12 +25,6 @@ due c =
     (c.room.ensures ∙ ap (λ (d : Due). with_room d slice) c.two_inputs.ensures)
     c.first-due.ensures
     ∙ ap (first_or (two_inputs s.p s.a.now s.b.now s.room.now)) c.done.ensures
-
-pub returns-then-not-is_done : goal.returns-then-not-is_done
-returns-then-not-is_done c =
-    let s = c.args in
-    combine-refused _ s.minus s.a.now s.b.now s.room.now _ (due (goal.at.returns-then-not-is_done c).After-first-due)
-    (refused_number c.first-due.result c.is_done.ensures c.if-not-is_done.true)
 
 good : (c : Else-not-is_done) → let s = c.args in
     Good s.p s.a.now s.b.now × Each (λ x. Shaped x) (lent 3 s.room.now room_terms ∷ []) × (none.number ≡ 0)

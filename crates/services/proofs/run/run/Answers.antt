@@ -23,10 +23,3 @@ slice_bounds-result-start c = omega (arith, within (goal.at.slice_bounds-result-
 
 pub slice_bounds-result-end : goal.slice_bounds-result-end
 slice_bounds-result-end c = omega (arith, within (goal.at.slice_bounds-result-end c).After-run_part-part)
-
-pub returns : goal.returns
-returns c =
-    let a = c.args.s.ref_ptr in
-    let n = (run_of c.args.s.now c.args.power).start in
-    let e : n * 8 + a.1 ≡ a.1 + 8 * n = omega arith in
-    rw c.run_part-part.ensures (refl, λ d. (a.0, e d))

@@ -22,9 +22,6 @@ found : (c : In-Some) → let s = c.args.s.now in
     (c.in-Some.start < records s) × (run_of s c.args.power ≡ part c.in-Some.start (ends s c.args.power c.in-Some.start))
 found c = run_found _ _ (sym c.in_order.ensures ∙ c.if-not-in_order.false) _ (sym c.first_with.ensures ∙ c.in-Some.is)
 
-pub first_without-requires : goal.first_without-requires
-first_without-requires c = omega (arith, found c)
-
 pub overflow_mul-result-2 : goal.overflow_mul-result-2
 overflow_mul-result-2 c =
     let a = c.args in
