@@ -2,16 +2,13 @@
 --
 --   waiting                  all that waits in a tree
 --   taken-step               a monomial that is taken out of the tree is a step of filling
---   nothing_filled           a factor without terms gives a product without terms
 use Prim.Native.Nat.{ℕ, suc, ◌-◌, ◌<◌}
-use mathlib.Core.Path.{◌≡◌, sym, ap}
+use mathlib.Core.Path.{◌≡◌}
 use mathlib.Core.List.{List}
 use native.Mathlib.Omega.{arith}
 use Rattle.algebra.specs.Monomials.{Numbers}
-use Rattle.algebra.specs.Orders.{Rising}
-use Rattle.algebra.specs.Polynomials.{Poly, mul, norm}
-use Rattle.poly.specs.Words.{records, word_at, span}
-use Rattle.calls.specs.Endings.{Filled}
+use Rattle.algebra.specs.Polynomials.{Poly}
+use Rattle.poly.specs.Words.{records, word_at}
 use Rattle.calls.proofs.Filling.{Step}
 use Rattle.tree.specs.Tree.{awaited, Taken}
 use Rattle.tree.proofs.Planting.{awaited_below}
@@ -28,12 +25,4 @@ taken-step p rows cols falls w w' k c e t =
       small = t.small;
       sums = t.sums;
       lower = awaited_below rows cols w' t.live falls (k - 1) (omega arith);
-    }
-
-pub nothing_filled : (p : ℕ) (rows cols room : List ℕ) → records rows ≡ 0 →
-    Filled p (mul (span rows 0 (records rows)) (span cols 0 (records cols))) room room 0
-nothing_filled p rows cols room z =
-    record {
-      fits = λ k. sym (ap (λ n. norm Rising p (mul (span rows 0 n) (span cols 0 (records cols)))) z);
-      full = λ k. absurd (omega arith);
     }

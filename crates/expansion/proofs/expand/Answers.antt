@@ -7,7 +7,6 @@ use Rattle.poly.specs.Words.{records}
 use Rattle.poly.proofs.Maxima.{words_small}
 use Rattle.calls.specs.Endings.{Filled}
 use Rattle.expansion.proofs.Bursts.{sides}
-use Rattle.expansion.proofs.Expanding.{nothing_filled}
 use Rattle.expansion.proofs.expand.Goals as goal
 use Rattle.expansion.proofs.expand.Goals.{Else-rows-eq0}
 

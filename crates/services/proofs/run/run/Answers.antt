@@ -1,9 +1,7 @@
 -- `services::run::run` meets its contract.
-use Prim.Native.Nat.{◌≤◌, ◌+◌, ◌*◌}
-use mathlib.Core.Path.{◌≡◌, refl}
+use Prim.Native.Nat.{◌≤◌}
 use native.Mathlib.Omega.{arith}
 use lib.ListN.{length}
-use Rattle.services.specs.Services.{run_of}
 use Rattle.services.proofs.Parts.{run_within}
 use Rattle.services.proofs.run.run.Goals as goal
 use Rattle.services.proofs.run.run.Goals.{After-run_part-part}
