@@ -19,7 +19,7 @@ pub room_reply-asks_nothing : (κs : _) (a : _) → room-reply.Pre κs a
 room_reply-asks_nothing κs a = tt
 
 pub room_reply-determined : (κs : _) (a : _) (r r' : _) (s s' : _) → room-reply.Post κs a r s → room-reply.Post κs a r' s' → r ≡ r'
-room_reply-determined κs a r r' s s' p q = p ∙ sym q
+room_reply-determined κs a r r' s s' p q = p.0 ∙ sym q.0
 
 pub report_of-asks_nothing : (κs : _) (a : _) → report-of.Pre κs a
 report_of-asks_nothing κs a = tt

@@ -2,7 +2,8 @@
 ghost use Rattle.std.specs.Prelude.{◌≡◌, ◌≤◌};
 ghost use Rattle.std.specs.Option.{ForSome};
 ghost use Rattle.poly.specs.Words.{records};
-ghost use Rattle.calls.specs.Outcomes.{told};
+ghost use Rattle.reasons.specs.Reasons.{reply_of};
+ghost use Rattle.calls.specs.Outcomes.{room_reply, told};
 ghost use Rattle.calls.specs.Endings.{roomed, left, told_of};
 
 use poly::room::clear;
@@ -11,7 +12,8 @@ use refusals::report::{Report, done, refusal};
 
 // So many terms, or no room where the room has too few places for them.
 pub fn room_reply(terms: usize, room: &[u64]) -> Result<usize, Reason>
-    ensures { result ≡ roomed terms room.now }
+    ensures value { result ≡ roomed terms room.now }
+    ensures reply { reply_of result ≡ room_reply terms room.now }
 {
     if terms <= room.len() / 2 {
         Ok(terms)
@@ -33,21 +35,18 @@ pub fn told(end: Result<(usize, usize), Reason>) -> Report
     ensures { result ≡ told_of end }
 {
     match end {
-        Ok((first, second)) => done(first as u64, second as u64),
-        Err(reason) => refusal(reason, 0, 0),
+        Ok((first, second)) => report_of(0, first, second),
+        Err(reason) => report_of(reason.number(), 0, 0),
     }
 }
 
-// The same by the number of a reply. It stays with what it promised, since docs/DECISIONS.md names it.
+// The report with a reply, and the terms of both outputs where it is 0.
 pub fn report_of(reply: u64, first: usize, second: usize) -> Report
     ensures { result ≡ told reply first second }
 {
     if reply == 0 {
         done(first as u64, second as u64)
     } else {
-        Report {
-            number: reply,
-            ..Report::default()
-        }
+        refusal(reply, 0, 0)
     }
 }

@@ -46,15 +46,15 @@ impl Due {
         let f = find_faults(p, s);
         due.guard = or_else(
             due.guard,
-            at_term(Reason::BadMonomial, operand, f.guard, count),
+            at_term(Reason::BadMonomial.number(), operand, f.guard, count),
         );
         due.order = or_else(
             due.order,
-            at_term(Reason::BadOrder, operand, f.order, count),
+            at_term(Reason::BadOrder.number(), operand, f.order, count),
         );
         due.coef = or_else(
             due.coef,
-            at_term(Reason::BadCoefficient, operand, f.coef, count),
+            at_term(Reason::BadCoefficient.number(), operand, f.coef, count),
         );
         due
     }

@@ -1,13 +1,11 @@
 // The report that every call on polynomials answers.
 ghost use Rattle.std.specs.Prelude.{◌≡◌, eqb};
-ghost use Rattle.reasons.specs.Reasons.{number_of};
 ghost use Rattle.refusals.specs.Reports.{refusal, done, or_else};
 
 use numbers::choose;
-use reasons::Reason;
 
 // The number, the operand that it blames, a term index, and the terms of the first and the second output. The struct is C's, so that a
-// reply is a number in it; `Reason` names the numbers. An operand is a place in a call and no kind: RULES Report counts them.
+// reply is a number in it; `Reason` names those of today. An operand is a place in a call and no kind: RULES Report counts them.
 #[repr(C)]
 #[derive(Clone, Copy, Default, PartialEq, Eq)]
 pub struct Report {
@@ -18,12 +16,12 @@ pub struct Report {
     pub second: u64,
 }
 
-// A refusal of an operand at a term.
-pub fn refusal(reason: Reason, operand: u64, index: u64) -> Report
-    ensures { result ≡ refusal (number_of reason) operand index }
+// A refusal of an operand at a term, by the number of its reply.
+pub fn refusal(number: u64, operand: u64, index: u64) -> Report
+    ensures { result ≡ refusal number operand index }
 {
     Report {
-        number: reason.number(),
+        number,
         operand,
         index,
         ..Report::default()

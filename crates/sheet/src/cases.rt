@@ -56,7 +56,7 @@ impl Says {
     {
         match self {
             Says::Done(first, second) => done(first, second),
-            Says::Stop(reason, operand) => refusal(reason, operand, 0),
+            Says::Stop(reason, operand) => refusal(reason.number(), operand, 0),
         }
     }
 }

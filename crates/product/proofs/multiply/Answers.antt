@@ -40,6 +40,6 @@ returns c =
           let long : length c.if-is_some.work ≡ length a.work.now = search rules in
           ends-filled _ a.rows.now a.cols.now a.room.now a.work.now c.requires.within.0 c.requires.lent.1 c.requires.lent.2
           (none_bursts f g _ c.burst_at.ensures (sym c.is_some.ensures ∙ w.if-is_some.false)) room₁ w.expand-n.result same w.expand-n.ensures
-          _ (w.end-is ∙ w.room_reply-end.ensures) _ m _
+          _ (w.end-is ∙ w.room_reply-end.ensures.value) _ m _
           (e ∙ (λ d. outcome (told_of c.map.result) (left (result_ok c.if-is_some.end) (w.room-is d)) [] (replicate (long d) 0)))
     ]

@@ -49,4 +49,4 @@ returns c =
     combine_goes_on _ s.minus s.a.now s.b.now s.room.now _ (due (goal.at.returns c).After-first-due)
     (done_number c.first-due.result c.is_done.ensures c.if-not-is_done.false) _
     (combine-ends _ s.minus s.a.now s.b.now g.positive g.first g.second s.room.now _ _ _ _ _ _ same
-    c.merge.ensures c.room_reply-end.ensures c.ok.ensures.value c.leave.ensures made c.told.ensures)
+    c.merge.ensures c.room_reply-end.ensures.value c.ok.ensures.value c.leave.ensures made c.told.ensures)
