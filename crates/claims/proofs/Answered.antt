@@ -5,6 +5,7 @@
 use mathlib.Core.Path.{◌≡◌}
 use mathlib.Core.List.{[]}
 use Rattle.moduli.proofs.modulus.Reads as modulus
+use Rattle.moduli.proofs.is_modulus.Reads as is-modulus
 use Rattle.field.proofs.sum.Reads as field-sum
 use Rattle.field.proofs.product.Reads as field-product
 use Rattle.field.proofs.inverse.Reads as inverse
@@ -32,6 +33,10 @@ use Rattle.claims.specs.Demands.{Answered}
 
 pub modulus_answered : (κs : _) (x : _) → Answered (modulus.Pre κs x) (modulus.Post κs x) (λ r s. r)
 modulus_answered κs x = record { any = moduli.modulus-asks_nothing κs x; one = moduli.modulus-determined κs x }
+
+-- the prime test as every other call asks it
+pub is_modulus_answered : (κs : _) (x : _) → Answered (is-modulus.Pre κs x) (is-modulus.Post κs x) (λ r s. r)
+is_modulus_answered κs x = record { any = moduli.is_modulus-asks_nothing κs x; one = moduli.is_modulus-determined κs x }
 
 pub field_sum_answered : (κs : _) (x : _) → Answered (field-sum.Pre κs x) (field-sum.Post κs x) (λ r s. r)
 field_sum_answered κs x = record { any = fields.sum-asks_nothing κs x; one = fields.sum-determined κs x }

@@ -1,6 +1,7 @@
 -- What is claimed of the calls on single numbers and words, and of the profile: each reply is given exactly when its rule says so.
 --
 --   modulus-told             the prime test: 1 where p is not a prime in its range
+--   is_modulus-told          the same test as every other call asks it: no where p is not a prime in its range
 --   field_sum-told, field_product-told, inverse-told, balanced-told, residue-told   1 first, then 6 for an operand that is not good
 --   pack-told, unpack-told   4 for an exponent above 32,767, and for a set guard bit
 --   profile_told             the report beside a profile is that of the check
@@ -15,6 +16,7 @@ use Rattle.algebra.specs.Residues.{pick}
 use Rattle.moduli.specs.Moduli.{is_modulus, modulus_of}
 use Rattle.field.specs.Answers.{refusal_of, or_refused, no_value, field_sum_of, field_product_of, inverse_of, balanced_of, residue_of}
 use Rattle.moduli.proofs.modulus.Reads as modulus
+use Rattle.moduli.proofs.is_modulus.Reads as is-modulus
 use Rattle.field.proofs.sum.Reads as field-sum
 use Rattle.field.proofs.product.Reads as field-product
 use Rattle.field.proofs.inverse.Reads as inverse
@@ -116,6 +118,10 @@ modulus-told κs x t s post = (λ e. failed (is_modulus x.0) refl (sym post ∙ 
     failed : (m : Bool) → is_modulus x.0 ≡ m → pick {A = ℕ} m 0 1 ≡ 1 → is_modulus x.0 ≡ false
     failed true d k = absurd (omega arith)
     failed false d k = d
+
+-- Every call with a modulus asks it so.
+pub is_modulus-told : (κs : _) (x : _) (t : _) (s : _) → is-modulus.Post κs x t s → (t ≡ false) ↔ (is_modulus x.0 ≡ false)
+is_modulus-told κs x t s post = (λ e. sym post ∙ e, λ m. post ∙ m)
 
 -- Packing and unpacking
 
