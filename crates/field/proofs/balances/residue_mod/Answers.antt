@@ -1,19 +1,30 @@
--- The number and the divisor are read back as they are, and so is the remainder.
-use mathlib.Core.Path.{◌≡◌, ◌∙◌, ap}
-use native.Mathlib.Omega.{arith}
-use lib.IntN.{pos, nat_abs}
-use mir.Syntax.{w32, w64}
-use mir.Val.{to_z, of_z}
-use mir.ValLaws.{to_z_pos, to_z-of_z}
-use Rattle.std.specs.Int.{int_rem_euclid}
-use Rattle.field.proofs.Signs.{residue_rem}
+-- The number is read back as it is, and so is its size.
+use Rattle.std.proofs.Common.{◌≡◌, ◌∙◌, sym, ap, ℕ, ◌-◌, ◌%◌, pos, to_z, of_z}
+use mir.Syntax.{w32}
+use mir.ValLaws.{to_z-of_z}
+use lib.IntN.{ℤ, nat_abs}
+use lib.Signed.{lt_z}
+use Rattle.field.proofs.Signs.{residue_from_zero, residue_below_zero}
 use Rattle.field.proofs.balances.residue_mod.Goals as goal
+use Rattle.field.proofs.balances.residue_mod.Goals.{After-from}
 
-pub returns : goal.returns
-returns c =
+read : (c : After-from) → to_z w32 (of_z w32 c.args.n) ≡ c.args.n
+read c = to_z-of_z w32 c.args.n c.ranges.n
+
+size : (c : After-from) → c.from.result ≡ nat_abs c.args.n
+size c = c.from.ensures ∙ c.unsigned_abs.ensures.value ∙ ap nat_abs (read c)
+
+pub returns-then-n-lt0 : goal.returns-then-n-lt0
+returns-then-n-lt0 c =
     let p = c.args.p in
-    let n = c.args.n in
-    let given : to_z w64 (of_z w64 c.from.result) ≡ n = to_z-of_z w64 _ (record { sfits = c.from.type_inv }) ∙ c.from.ensures ∙ to_z-of_z w32 n c.ranges.n in
-    let divisor : to_z w64 p ≡ pos p = to_z_pos w64 p (omega arith) in
-    let rem : c.rem_euclid.result ≡ int_rem_euclid n (pos p) = c.rem_euclid.ensures.value ∙ (λ i. int_rem_euclid (given i) (divisor i)) in
-    ap nat_abs (to_z-of_z w64 _ (record { sfits = c.rem_euclid.type_inv }) ∙ rem) ∙ residue_rem p n c.requires.1
+    let b = goal.at.returns-then-n-lt0 c in
+    c.neg_mod.ensures
+    ∙ ap (λ (x : ℕ). (p - x % p) % p) (size b.After-from)
+    ∙ sym (residue_below_zero p c.args.n (ap (λ (z : ℤ). lt_z z (pos 0)) (sym (read b.After-from)) ∙ c.if-n-lt0.true))
+
+pub returns-else-n-lt0 : goal.returns-else-n-lt0
+returns-else-n-lt0 c =
+    let p = c.args.p in
+    let b = goal.at.returns-else-n-lt0 c in
+    ap (λ (x : ℕ). x % p) (size b.After-from)
+    ∙ sym (residue_from_zero p c.args.n (ap (λ (z : ℤ). lt_z z (pos 0)) (sym (read b.After-from)) ∙ c.if-n-lt0.false))
