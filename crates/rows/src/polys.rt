@@ -1,5 +1,6 @@
 // The calls on polynomials, each tried on a row. Rooms are given by their terms, and the work array by its words: they are front parts
-// of longer arrays, since their lengths are the row's. Limits are clauses of each, as docs/CLAIMS.md has them.
+// of longer arrays, since their lengths are the row's. Limits are clauses of each, as docs/CLAIMS.md has them. None is laid into its
+// caller, so that the arrays of one call alone are on the stack.
 ghost use Rattle.std.specs.Prelude.{◌*◌, ◌≤◌, ◌≡◌};
 ghost use Rattle.rows.specs.Cases.{trial, product_row, division_row, test_row};
 
@@ -11,6 +12,7 @@ use division::test::divides;
 use refusals::report::Report;
 
 // The product.
+#[inline(never)]
 pub fn product_tried(
     p: u64,
     a: &[u64],
@@ -35,6 +37,7 @@ pub fn product_tried(
 }
 
 // Division with remainder.
+#[inline(never)]
 pub fn division_tried(
     p: u64,
     f: &[u64],
@@ -64,6 +67,7 @@ pub fn division_tried(
 }
 
 // The divide test.
+#[inline(never)]
 pub fn test_tried(
     p: u64,
     f: &[u64],
