@@ -1,6 +1,7 @@
 -- Laws of prime moduli.
 --
 --   prime_of_test, test_of_prime   is_prime p just where p is a prime
+--   Prime-prop                     that a number is prime has one proof at most
 --   below_not_zero                 a number from 1 to p − 1 is not the same as 0
 --   one_not_zero                   1 is not the same as 0
 --   inverse_law                    a · inverse p a is the same as 1, where a is not the same as 0
@@ -17,6 +18,9 @@ use native.Mathlib.Decide.{ℕ_discrete, dec_lt}
 use native.Mathlib.Omega.{arith}
 use lib.Dec.{eqb, leb}
 use borrow.Author.Tests.{leb-true, le-leb, eqb-true, eqb-false, eq-eqb, ne_eqb}
+use Rattle.std.proofs.Common.{subst}
+use Rattle.std.proofs.Math.Nat.{ℕ_set, lt_irrefl}
+use Rattle.std.specs.Coded.{le_prop}
 use Rattle.algebra.specs.Residues.{Same, Prime, is_prime, inverse, has_divisor, first}
 use Rattle.algebra.proofs.Tests.{both_true}
 use Rattle.algebra.proofs.Residues.{same_eq, same_refl, same_sym, same_trans, same_mod, same_multiple, same_mul, same_mul-left, same_cancel, same_below, same_decided}
@@ -58,6 +62,18 @@ test_of_prime {p} P = rw (le-leb 2 p P.two) (eq-eqb _ _ (first_unique (has_divis
 
 pub below_not_zero : {p a : ℕ} → 0 < a → a < p → Same p a 0 → ⊥
 below_not_zero h k e = let z = same_below k (omega arith) e in omega arith
+
+-- Being prime has one proof
+
+-- no number is 1 and one that is greater
+apart : {p x : ℕ} → 2 ≤ p → (a b : (x ≡ 1) ⊎ (x ≡ p)) → a ≡ b
+apart {p} {x} h (inl e) (inl d) = ap inl (ℕ_set x 1 e d)
+apart {p} {x} h (inl e) (inr d) = absurd (lt_irrefl 1 (subst (λ y. 1 < y) (sym d ∙ e) h))
+apart {p} {x} h (inr e) (inl d) = absurd (lt_irrefl 1 (subst (λ y. 1 < y) (sym e ∙ d) h))
+apart {p} {x} h (inr e) (inr d) = ap inr (ℕ_set x p e d)
+
+pub Prime-prop : (p : ℕ) → IsProp (Prime p)
+Prime-prop p a b = λ i. record { two = le_prop a.two b.two i; only = λ d h. apart a.two (a.only d h) (b.only d h) i }
 
 -- A number whose product with a is the same as 1
 

@@ -36,7 +36,8 @@ use Rattle.poly.specs.Profiles.{measure_of}
 use Rattle.poly.specs.declared.profile.Profile.{Profile}
 use Rattle.poly.proofs.Maxima.{letters_fit, words_small}
 use Rattle.tree.specs.Tree.{Sides}
-use Rattle.expansion.specs.Bursts.{burst_at, first_burst}
+use Rattle.expansion.specs.Bursts.{burst_at}
+use Rattle.expansion.specs.Found.{first_burst}
 
 abbrev pub bursts : Poly (Letters 4) → Poly (Letters 4) → ℕ → Bool
 bursts f g v = ltb (largest_exponent 16) (largest (exponent 4 v) f + largest (exponent 4 v) g)

@@ -1,2 +1,3 @@
 -- Products that burst.
 pub mod Bursts
+pub mod Found

@@ -11,7 +11,7 @@ ghost use Rattle.poly.specs.Valid.{Valid};
 ghost use Rattle.refusals.specs.Rules.{input_terms};
 ghost use Rattle.calls.specs.Endings.{Filled};
 ghost use Rattle.tree.specs.Tree.{awaited, Live, Sides};
-ghost use Rattle.expansion.specs.Bursts.{first_burst};
+ghost use Rattle.expansion.specs.Found.{first_burst};
 
 use monomial::LARGEST;
 use poly::profile::measure;

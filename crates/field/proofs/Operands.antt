@@ -17,7 +17,8 @@ use Rattle.algebra.proofs.Tests.{both_true}
 use Rattle.reasons.specs.declared.Reason.{Reason}
 use Rattle.reasons.specs.declared.Reason.TheVariants.{BadModulus, BadCoefficient}
 use Rattle.moduli.specs.Moduli.{is_modulus}
-use Rattle.field.specs.Answers.{or_refused, tried, value, no_value, value_of, balance_of}
+use Rattle.field.specs.Answers.{or_refused, value, no_value, value_of, balance_of}
+use Rattle.field.specs.Tries.{tried}
 
 pub passed : (p : ℕ) (good : Bool) {r : Result (Unit {0}) Reason} → r ≡ tried p good tt → r ≡ Ok tt → (is_modulus p ≡ true) × (good ≡ true)
 passed p good e f = go (is_modulus p) good (sym e ∙ f)

@@ -3,7 +3,6 @@
 --
 --   refusal_of p good        the refusal that is due of a modulus and operands, 0 where none is
 --   or_refused               an answer, or the refusal that is due in its place
---   tried p good v           v, or the reason of the refusal that is due
 --   value, no_value          reply 0 with a value; a refusal with the value 0
 --   value_of, balance_of     an answer as a result, as number and value
 --   field_sum_of p a b       the answer of the sum: a + b modulo p
@@ -19,7 +18,6 @@ use Rattle.algebra.specs.Residues.{inverse, pick}
 use Rattle.moduli.specs.Moduli.{is_modulus}
 use Rattle.reasons.specs.Reasons.{number_of}
 use Rattle.reasons.specs.declared.Reason.{Reason}
-use Rattle.reasons.specs.declared.Reason.TheVariants.{BadModulus, BadCoefficient}
 use Rattle.field.specs.declared.Value.{Value}
 use Rattle.field.specs.declared.Balance.{Balance}
 
@@ -30,10 +28,6 @@ refusal_of p good = pick (is_modulus p) (pick good 0 6) 1
 -- the answer v, or in its place the refusal that is due
 abbrev pub or_refused : {A : Type 0} → (ℕ → A) → ℕ → Bool → A → A
 or_refused refused p good v = pick (eqb (refusal_of p good) 0) v (refused (refusal_of p good))
-
--- the same as a result
-abbrev pub tried : {A : Type 0} → ℕ → Bool → A → Result A Reason
-tried p good v = pick (is_modulus p) (pick good (Ok v) (Err BadCoefficient)) (Err BadModulus)
 
 -- Answers with a value from 0 to p − 1
 

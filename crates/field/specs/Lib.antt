@@ -1,2 +1,3 @@
 -- What the field operations answer.
 pub mod Answers
+pub mod Tries

@@ -1,6 +1,7 @@
 ghost use Rattle.std.specs.Prelude.{◌≡◌, ◌<◌, ◌≤◌, true, ltb};
 ghost use Rattle.moduli.specs.Moduli.{limit};
-ghost use Rattle.field.specs.Answers.{balance_of, balanced_of, balanced_value, residue_of, residue_value, tried};
+ghost use Rattle.field.specs.Answers.{balance_of, balanced_of, balanced_value, residue_of, residue_value};
+ghost use Rattle.field.specs.Tries.{tried};
 
 use crate::{Balance, Value, accept};
 use moduli::neg_mod;

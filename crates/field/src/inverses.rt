@@ -1,6 +1,7 @@
 ghost use Rattle.std.specs.Prelude.{◌≡◌, ◌&&◌, ltb};
 ghost use Rattle.algebra.specs.Residues.{inverse};
-ghost use Rattle.field.specs.Answers.{inverse_of, tried};
+ghost use Rattle.field.specs.Answers.{inverse_of};
+ghost use Rattle.field.specs.Tries.{tried};
 
 use crate::{Value, accept};
 use moduli::inverse_mod;

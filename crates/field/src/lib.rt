@@ -2,7 +2,8 @@
 #![tactic(auto)]
 
 ghost use Rattle.std.specs.Prelude.{◌≡◌, ◌+◌, ◌*◌, ◌%◌, ◌&&◌, ltb};
-ghost use Rattle.field.specs.Answers.{field_sum_of, field_product_of, tried, value_of};
+ghost use Rattle.field.specs.Answers.{field_sum_of, field_product_of, value_of};
+ghost use Rattle.field.specs.Tries.{tried};
 
 mod balances;
 mod inverses;

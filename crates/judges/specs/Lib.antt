@@ -2,4 +2,3 @@
 pub mod Judges
 pub mod Stops
 pub mod Plans
-pub mod Once

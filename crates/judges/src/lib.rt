@@ -8,7 +8,7 @@ ghost use Rattle.moduli.specs.Moduli.{limit};
 ghost use Rattle.monomial.specs.Layout.{base, is_monomial};
 ghost use Rattle.poly.specs.Words.{records};
 ghost use Rattle.poly.specs.Valid.{Valid};
-ghost use Rattle.judges.specs.Once.{Prime-prop};
+ghost use Rattle.algebra.proofs.Primes.{Prime-prop};
 ghost use Rattle.std.proofs.Props.{props};
 ghost use Rattle.judges.specs.Plans.{is_test, quotient_reply, remainder_reply, Ready};
 

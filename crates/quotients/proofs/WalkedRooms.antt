@@ -37,7 +37,8 @@ use Rattle.judges.specs.declared.Plan.{Plan}
 use Rattle.steps.specs.Walking.{whole}
 use Rattle.steps.specs.declared.State.{State}
 use Rattle.walk.specs.Running.{Wrote, Ran}
-use Rattle.quotients.specs.Quotients.{walked, test_walk, tested}
+use Rattle.quotients.specs.Planned.{walked}
+use Rattle.quotients.specs.Quotients.{test_walk, tested}
 
 -- records that are monomial words hold the polynomial that they are
 read_written : {f : Poly (Letters 4)} (s : List ℕ) (n : ℕ) → n ≤ records s → Monomial (span s 0 n) → decoded_poly base (span s 0 n) ≡ f → Written f s n

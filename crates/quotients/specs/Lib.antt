@@ -1,2 +1,3 @@
 -- Quotients and remainders.
 pub mod Quotients
+pub mod Planned

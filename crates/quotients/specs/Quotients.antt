@@ -2,7 +2,6 @@
 --
 --   division_walk, test_walk   the walk of each call, with the terms that its rooms can hold
 --   divided, tested            what each call leaves
---   walked                     what either leaves, as its plan has it: the divide test has an empty remainder room there
 use Rattle.std.specs.Prelude.{ℕ, List, []}
 use Rattle.algebra.specs.Monomials.{Letters}
 use Rattle.algebra.specs.Walk.{Walked}
@@ -10,8 +9,6 @@ use Rattle.monomial.specs.Layout.{base}
 use Rattle.poly.specs.Words.{records, poly_of}
 use Rattle.calls.specs.Outcomes.{Outcome, ended}
 use Rattle.judges.specs.Judges.{division_judges, test_judges, walk_by}
-use Rattle.judges.specs.declared.Plan.{Plan}
-use Rattle.steps.specs.Walking.{whole}
 
 abbrev pub division_walk : ℕ → List ℕ → List ℕ → List ℕ → List ℕ → Walked (Letters 4)
 division_walk p f g q r = walk_by p (division_judges (poly_of base g) (records q) (records r)) (poly_of base f) (poly_of base g)
@@ -26,8 +23,3 @@ test_walk p f g q = walk_by p (test_judges (poly_of base f) (poly_of base g) (re
 
 abbrev pub tested : ℕ → List ℕ → List ℕ → List ℕ → List ℕ → Outcome
 tested p f g q work = let w = test_walk p f g q in ended w.reply w.quotient [] q [] work
-
--- Either call, as its plan has it
-
-abbrev pub walked : Plan → List ℕ → List ℕ → List ℕ → Outcome
-walked plan q r work = let w = whole plan in ended w.reply w.quotient w.remainder q r work

@@ -3,7 +3,7 @@
 
 ghost use Rattle.std.specs.Prelude.{◌≡◌, ◌*◌, ◌≤◌, length};
 ghost use Rattle.calls.specs.Outcomes.{outcome};
-ghost use Rattle.quotients.specs.Quotients.{walked};
+ghost use Rattle.quotients.specs.Planned.{walked};
 ghost use Rattle.poly.specs.Words.{records};
 ghost use Rattle.refusals.specs.Rules.{input_terms};
 

@@ -17,7 +17,8 @@ use borrow.Author.Tests.{lt-ltb, le-ltb, ltb-true, ltb-false}
 use Rattle.algebra.specs.Residues.{pick, first}
 use Rattle.algebra.proofs.Scan.{first_from, first_within, first_unique}
 use Rattle.poly.specs.Words.{records, word_at}
-use Rattle.services.specs.Services.{as_input, check_of, no_profile, profile_of, has_power, starts, ends, within, in_order, run_of}
+use Rattle.services.specs.Searches.{within}
+use Rattle.services.specs.Services.{as_input, check_of, no_profile, profile_of, has_power, starts, ends, in_order, run_of}
 use Rattle.poly.specs.Profiles.{measure_of}
 use Rattle.std.specs.Array.{AllOfLen}
 use Rattle.std.proofs.lemmas.List.{get_or-replicate}

@@ -6,8 +6,7 @@
 --   words_from part s     the words of that part
 --   starts s power        the first term with this power, or the number of terms
 --   ends s power from     the first term from one on without it, or the number of terms
---   within i n            the number i, where it is one of n things
-use Rattle.std.specs.Prelude.{ℕ, ◌*◌, ◌-◌, Bool, not, ◌&&◌, List, [], ◌∷◌, ◌++◌, eqb, ltb, take, drop, Option, Some, None}
+use Rattle.std.specs.Prelude.{ℕ, ◌*◌, ◌-◌, Bool, not, ◌&&◌, List, [], ◌∷◌, ◌++◌, eqb, ltb, take, drop}
 use Rattle.algebra.specs.Residues.{pick, first}
 use Rattle.monomial.specs.Layout.{base, exponent_of}
 use Rattle.poly.specs.Words.{records, word_at}
@@ -62,10 +61,6 @@ run_of s power =
     pick (in_order s && ltb start (records s))
     (record { start = 2 * start; end = 2 * end })
     (record { start = 0; end = 0 })
-
--- the number i of one of n things
-abbrev pub within : ℕ → ℕ → Option ℕ
-within i n = pick (ltb i n) (Some i) None
 
 -- the words of a slice from one place up to another
 abbrev pub words_from : Part → List ℕ → List ℕ

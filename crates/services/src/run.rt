@@ -1,7 +1,8 @@
 // The run of one power of x: in lexicographic order its terms lie side by side.
 ghost use Rattle.std.specs.Prelude.{◌≡◌, ◌+◌, ◌*◌, ◌≤◌};
 ghost use Rattle.poly.specs.Words.{records};
-ghost use Rattle.services.specs.Services.{within, starts, ends, in_order, run_of, words_from};
+ghost use Rattle.services.specs.Searches.{within};
+ghost use Rattle.services.specs.Services.{starts, ends, in_order, run_of, words_from};
 
 use dues::Due;
 use refusals::rules::INPUT_TERMS;

@@ -4,7 +4,8 @@ use native.Mathlib.Nat.{sub-zero}
 use Rattle.std.proofs.lemmas.Iterator.{first_from_Range}
 use Rattle.algebra.specs.Residues.{first}
 use Rattle.poly.specs.Words.{records, word_at}
-use Rattle.services.specs.Services.{has_power, within}
+use Rattle.services.specs.Searches.{within}
+use Rattle.services.specs.Services.{has_power}
 use Rattle.services.proofs.Parts.{found_first}
 use Rattle.services.proofs.run.first_with.Goals as goal
 
