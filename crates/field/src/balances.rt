@@ -63,11 +63,14 @@ fn try_residue(p: u64, n: i32) -> Result<u64, Reason>
     Ok(residue_mod(p, n))
 }
 
-// The residue, unchecked: by the number's size, since `rem_euclid` in 64 bits takes up to 2.5 times as long for a small p.
+// The residue, unchecked. Below 0 it goes by the number's size, since `rem_euclid` in 64 bits takes up to 2.5 times as long for a small p.
 fn residue_mod(p: u64, n: i32) -> u64
     requires { (p ≤ limit) × (0 < p) }
     ensures { result ≡ residue_value p n }
 {
-    let size = u64::from(n.unsigned_abs()) % p;
-    if n < 0 { neg_mod(p, size) } else { size }
+    if n < 0 {
+        neg_mod(p, u64::from(n.unsigned_abs()) % p)
+    } else {
+        n as u64 % p
+    }
 }
