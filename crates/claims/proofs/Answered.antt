@@ -34,7 +34,7 @@ use Rattle.claims.specs.Demands.{Answered}
 pub modulus_answered : (κs : _) (x : _) → Answered (modulus.Pre κs x) (modulus.Post κs x) (λ r s. r)
 modulus_answered κs x = record { any = moduli.modulus-asks_nothing κs x; one = moduli.modulus-determined κs x }
 
--- the prime test as every other call asks it
+-- the prime test as every other call with a modulus asks it
 pub is_modulus_answered : (κs : _) (x : _) → Answered (is-modulus.Pre κs x) (is-modulus.Post κs x) (λ r s. r)
 is_modulus_answered κs x = record { any = moduli.is_modulus-asks_nothing κs x; one = moduli.is_modulus-determined κs x }
 

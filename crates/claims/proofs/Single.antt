@@ -1,7 +1,7 @@
 -- What is claimed of the calls on single numbers and words, and of the profile: each reply is given exactly when its rule says so.
 --
 --   modulus-told             the prime test: 1 where p is not a prime in its range
---   is_modulus-told          the same test as every other call asks it: no where p is not a prime in its range
+--   is_modulus-told          the same test as every other call with a modulus asks it: no where p is not a prime in its range
 --   field_sum-told, field_product-told, inverse-told, balanced-told, residue-told   1 first, then 6 for an operand that is not good
 --   pack-told, unpack-told   4 for an exponent above 32,767, and for a set guard bit
 --   profile_told             the report beside a profile is that of the check
@@ -119,7 +119,7 @@ modulus-told κs x t s post = (λ e. failed (is_modulus x.0) refl (sym post ∙ 
     failed true d k = absurd (omega arith)
     failed false d k = d
 
--- Every call with a modulus asks it so.
+-- Every other call with a modulus asks it so.
 pub is_modulus-told : (κs : _) (x : _) (t : _) (s : _) → is-modulus.Post κs x t s → (t ≡ false) ↔ (is_modulus x.0 ≡ false)
 is_modulus-told κs x t s post = (λ e. sym post ∙ e, λ m. post ∙ m)
 
